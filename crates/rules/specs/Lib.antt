@@ -1,0 +1,4 @@
+pub mod Words
+pub mod Terms
+pub mod Refusals
+pub mod Held
