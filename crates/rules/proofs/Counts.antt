@@ -48,14 +48,14 @@ count-left f d zero = omega arith
 count-left f d (suc x) =
     let h : count (left f d) x ≡ count f x - d = count-left f d x in
     ⊎-elim
-      (λ (on : f x ≡ true).
-        let o : bitOf (f x) ≡ 1 = ap bitOf on in
-        ⊎-elim
-          (λ (l : d ≤ count f x). let p : bitOf (left f d x) ≡ 1 = ap bitOf (ap (λ b. b && leb d (count f x)) on ∙ le-leb d (count f x) l) in omega arith)
-          (λ (l : count f x < d). let p : bitOf (left f d x) ≡ 0 = ap bitOf (ap (λ b. b && leb d (count f x)) on ∙ lt-leb d (count f x) l) in omega arith)
-          (cases-le d (count f x)))
-      (λ (off : f x ≡ false). let o : bitOf (f x) ≡ 0 = ap bitOf off in let p : bitOf (left f d x) ≡ 0 = ap bitOf (ap (λ b. b && leb d (count f x)) off) in omega arith)
-      (cases-bool (f x))
+    (λ (on : f x ≡ true).
+    let o : bitOf (f x) ≡ 1 = ap bitOf on in
+    ⊎-elim
+    (λ (l : d ≤ count f x). let p : bitOf (left f d x) ≡ 1 = ap bitOf (ap (λ b. b && leb d (count f x)) on ∙ le-leb d (count f x) l) in omega arith)
+    (λ (l : count f x < d). let p : bitOf (left f d x) ≡ 0 = ap bitOf (ap (λ b. b && leb d (count f x)) on ∙ lt-leb d (count f x) l) in omega arith)
+    (cases-le d (count f x)))
+    (λ (off : f x ≡ false). let o : bitOf (f x) ≡ 0 = ap bitOf off in let p : bitOf (left f d x) ≡ 0 = ap bitOf (ap (λ b. b && leb d (count f x)) off) in omega arith)
+    (cases-bool (f x))
 
 pub count-below : (f : ℕ → Bool) (x : ℕ) → ((y : ℕ) → y < x → f y ≡ false) → count f x ≡ 0
 unfolding count
@@ -80,23 +80,24 @@ module _ (f : ℕ → Bool) (d x : ℕ) (on : left f d x ≡ true) (first : (y :
   next-left y =
       ⊎-elim
       (λ (e : y ≡ x).
-        let n = next-count in
-        let m : count f y ≡ d = ap (count f) e ∙ n in
-        ap (λ b. cond b false (left f d y)) (eq-eqb y x e) ∙ sym (and-right (f y) (leb (d + 1) (count f y)) (lt-leb (d + 1) (count f y) (omega arith))))
+      let n = next-count in
+      let m : count f y ≡ d = ap (count f) e ∙ n in
+      ap (λ b. cond b false (left f d y)) (eq-eqb y x e) ∙ sym (and-right (f y) (leb (d + 1) (count f y)) (lt-leb (d + 1) (count f y) (omega arith))))
       (⊎-elim
-        (λ (l : y < x).
-          let e : left f d y ≡ false = first y l in
-          ap (λ b. cond b false (left f d y)) (ne-eqb y x (λ q. omega arith)) ∙ e ∙ sym (fewer (f y) (count f y) e))
-        (λ (l : x < y).
-          let n = next-count in
-          let m = count-more f x in
-          let o = one-true (f x) next-owed in
-          let p : count f (x + 1) ≤ count f y = subst (λ z. count f (x + 1) ≤ count f z) (back l) (count-le f (x + 1) (y - x - 1)) in
-          ap (λ b. cond b false (left f d y)) (ne-eqb y x (λ q. omega arith)) ∙ ap (λ b. f y && b) (le-leb d (count f y) (omega arith) ∙ sym (le-leb (d + 1) (count f y) (omega arith)))))
+      (λ (l : y < x).
+      let e : left f d y ≡ false = first y l in
+      ap (λ b. cond b false (left f d y)) (ne-eqb y x (λ q. omega arith)) ∙ e ∙ sym (fewer (f y) (count f y) e))
+      (λ (l : x < y).
+      let n = next-count in
+      let m = count-more f x in
+      let o = one-true (f x) next-owed in
+      let p : count f (x + 1) ≤ count f y = subst (λ z. count f (x + 1) ≤ count f z) (back l) (count-le f (x + 1) (y - x - 1)) in
+      ap (λ b. cond b false (left f d y)) (ne-eqb y x (λ q. omega arith)) ∙ ap (λ b. f y && b) (le-leb d (count f y) (omega arith) ∙ sym (le-leb (d + 1) (count f y) (omega arith)))))
       (cases-order y x)
     where
       back : x < y → x + 1 + (y - x - 1) ≡ y
       back l = omega arith
+
       fewer : (b : Bool) (k : ℕ) → (b && leb d k) ≡ false → (b && leb (d + 1) k) ≡ false
       fewer true k e = let l = leb-false d k e in lt-leb (d + 1) k (omega arith)
       fewer false k e = refl
@@ -123,11 +124,11 @@ count-row f g a (suc k) h =
 pub none-owed : (f : ℕ → Bool) (x : ℕ) → count f x ≡ 0 → (y : ℕ) → y < x → f y ≡ false
 none-owed f x none y below =
     ⊎-elim
-      (λ (on : f y ≡ true).
-        let m = count-more f y in
-        let o = one-true (f y) on in
-        let e : y + 1 + (x - y - 1) ≡ x = omega arith in
-        let p : count f (y + 1) ≤ count f x = subst (λ z. count f (y + 1) ≤ count f z) e (count-le f (y + 1) (x - y - 1)) in
-        absurd (let z : 1 ≤ 0 = omega arith in omega arith))
-      (λ (off : f y ≡ false). off)
-      (cases-bool (f y))
+    (λ (on : f y ≡ true).
+    let m = count-more f y in
+    let o = one-true (f y) on in
+    let e : y + 1 + (x - y - 1) ≡ x = omega arith in
+    let p : count f (y + 1) ≤ count f x = subst (λ z. count f (y + 1) ≤ count f z) e (count-le f (y + 1) (x - y - 1)) in
+    absurd (let z : 1 ≤ 0 = omega arith in omega arith))
+    (λ (off : f y ≡ false). off)
+    (cases-bool (f y))

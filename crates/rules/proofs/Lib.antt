@@ -2,3 +2,4 @@ pub mod Words
 pub mod Counts
 pub mod Occurs
 pub mod Helds
+pub mod Folds

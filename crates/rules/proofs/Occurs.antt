@@ -28,6 +28,7 @@ front-fails t text s r m h e = ap (λ n. front t text s n) at ∙ more (m - r)
   where
     at : m ≡ r + (m - r)
     at = omega arith
+
     more : (d : ℕ) → front t text s (r + d) ≡ false
     more zero = ap (λ n. front t text s n) (native.Mathlib.Nat.add-zero r) ∙ e
     more (suc d) =
@@ -58,12 +59,12 @@ pub occurs-same : (t : Term) (x y : List ℕ) (s u : ℕ) →
 unfolding occurs
 occurs-same t x y s u ends same =
     ⊎-elim
-      (λ (e : leb (s + length (t .bytes)) (length x) ≡ true).
-        let a : front t x s (length (t .bytes)) ≡ front t y u (length (t .bytes)) = front-same t x y s u (length (t .bytes)) (same (leb-true _ _ e)) in
-        cc)
-      (λ (e : leb (s + length (t .bytes)) (length x) ≡ false).
-        and-left _ _ e ∙ sym (and-left _ _ (sym ends ∙ e)))
-      (cases-bool (leb (s + length (t .bytes)) (length x)))
+    (λ (e : leb (s + length (t .bytes)) (length x) ≡ true).
+    let a : front t x s (length (t .bytes)) ≡ front t y u (length (t .bytes)) = front-same t x y s u (length (t .bytes)) (same (leb-true _ _ e)) in
+    cc)
+    (λ (e : leb (s + length (t .bytes)) (length x) ≡ false).
+    and-left _ _ e ∙ sym (and-left _ _ (sym ends ∙ e)))
+    (cases-bool (leb (s + length (t .bytes)) (length x)))
 
 -- the stretch of l bytes from `start` on shows the occurrences at its first 64 starts, where it is long enough or ends with the text
 pub occurs-stretch : (t : Term) (text : List ℕ) (start l s : ℕ) → s < 64 → start + l ≤ length text → (63 + length (t .bytes) ≤ l) ⊎ (start + l ≡ length text) →
@@ -72,7 +73,7 @@ occurs-stretch t text start l s h fits long =
     let m = length (t .bytes) in
     let size : length (take l (drop start text)) ≡ l = simp (length-take, length-drop) (omega arith) in
     let ends : leb (s + m) (length (take l (drop start text))) ≡ leb (start + s + m) (length text) =
-        ap (λ x. leb (s + m) x) size ∙ ⊎-elim (λ (e : 63 + length (t .bytes) ≤ l). le-leb (s + m) l (omega arith) ∙ sym (le-leb (start + s + m) (length text) (omega arith))) (λ (e : start + l ≡ length text). grind (arith, tells)) long in
+    ap (λ x. leb (s + m) x) size ∙ ⊎-elim (λ (e : 63 + length (t .bytes) ≤ l). le-leb (s + m) l (omega arith) ∙ sym (le-leb (start + s + m) (length text) (omega arith))) (λ (e : start + l ≡ length text). grind (arith, tells)) long in
     occurs-same t (take l (drop start text)) text s (start + s) ends (λ within i below.
-        let lt : s + i < l = omega arith in
-        getD-take l (drop start text) (s + i) 0 lt ∙ getD-drop start text (s + i) 0 ∙ ap (λ x. getD text x 0) (omega arith))
+    let lt : s + i < l = omega arith in
+    getD-take l (drop start text) (s + i) 0 lt ∙ getD-drop start text (s + i) 0 ∙ ap (λ x. getD text x 0) (omega arith))

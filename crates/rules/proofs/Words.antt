@@ -72,11 +72,11 @@ word-one k (suc n) l =
     ⊎-elim
     (λ h. let f : eqb n k ≡ false = ne-eqb n k (omega arith) in rw f (omega (arith, word-one k n h)))
     (λ h.
-        let e : k ≡ n = omega arith in
-        let f : eqb n k ≡ true = eq-eqb n k (omega arith) in
-        let z = word-none (λ i. eqb i k) n (λ i b. ne-eqb i k (omega arith)) in
-        let g : 2 ^ k ≡ 2 ^ n = ap (λ x. 2 ^ x) e in
-        rw (f, z) (omega arith))
+    let e : k ≡ n = omega arith in
+    let f : eqb n k ≡ true = eq-eqb n k (omega arith) in
+    let z = word-none (λ i. eqb i k) n (λ i b. ne-eqb i k (omega arith)) in
+    let g : 2 ^ k ≡ 2 ^ n = ap (λ x. 2 ^ x) e in
+    rw (f, z) (omega arith))
     (cases-lt k n)
 
 -- the lowest bits of a word, and what lies above

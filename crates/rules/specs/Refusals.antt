@@ -34,6 +34,11 @@ abbrev pub answerOf : Option Refusal → Result (Unit {0}) Refusal
 answerOf None = Ok tt
 answerOf (Some e) = Err e
 
+-- two checks in order: the first one's refusal, else the second's
+abbrev pub inOrder : Option Refusal → Option Refusal → Option Refusal
+inOrder (Some e) next = Some e
+inOrder None next = next
+
 -- why no term can have m bytes and the limit k: m is 1 to 64, and k is below m
 abbrev pub malformed : ℕ → ℕ → Option Refusal
 malformed m k = cond (leb 1 m && leb m 64) (cond (ltb k m) None (Some LimitTooHigh)) (Some TermLength)

@@ -1,6 +1,6 @@
 // What bytes, terms, occurrences and refusals mean, and the few values that every layer shares.
 pub mod bytes;
-pub mod refusal;
-pub mod numbers;
 pub mod held;
+pub mod numbers;
+pub mod refusal;
 pub mod terms;

@@ -26,7 +26,11 @@ impl HeldTerm {
         }
         let mut bytes = [0u8; 64];
         bytes[0..m].copy_from_slice(term);
-        Ok(HeldTerm { bytes, len: m as u8, limit: limit as u8 })
+        Ok(HeldTerm {
+            bytes,
+            len: m as u8,
+            limit: limit as u8,
+        })
     }
 
     // Its bytes.
@@ -52,7 +56,9 @@ impl TermNumber {
         if number > 15 {
             return Err(Refusal::NumberTooHigh);
         }
-        Ok(TermNumber { value: number as u8 })
+        Ok(TermNumber {
+            value: number as u8,
+        })
     }
 
     // The number as a plain one.

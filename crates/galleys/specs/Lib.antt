@@ -1,0 +1,2 @@
+pub mod Galleys
+pub mod Byte

@@ -1,0 +1,4 @@
+// The ways in which a text is held.
+pub mod byte;
+pub mod byte_galley;
+pub mod galley;

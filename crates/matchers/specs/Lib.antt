@@ -1,0 +1,2 @@
+pub mod Matchers
+pub mod Compare
