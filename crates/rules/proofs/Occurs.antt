@@ -7,11 +7,12 @@ use native.Mathlib.Omega.{arith}
 use lib.Dec.{eqb, leb, ltb}
 use mathlib.Core.Logic.{_⊎_, inl, inr, ⊎-elim}
 use lib.ListN.{length, getD, take, drop}
-use Rattle.std.proofs.shelf.Lists.{getD-take, getD-drop, length-take, length-drop}
-use Rattle.std.proofs.shelf.Tests.{leb-true, le-leb, lt-leb, and-left, and-right, cases-bool}
-use Rattle.std.proofs.shelf.Ways.{tells}
-use Rattle.rules.specs.Terms.{Term, byteMatches, front, occurs}
-use Rattle.rules.proofs.Words.{all-none, all-more, all-same}
+use Rattle.std.specs.Orderings.{Decides}
+use Rattle.std.proofs.shelf.Lists.{ext-getD, getD-take, getD-drop, length-take, length-drop}
+use Rattle.std.proofs.shelf.Tests.{leb-true, le-leb, lt-leb, and-left, and-right, cases-bool, eqb-true, eq-eqb}
+use Rattle.std.proofs.shelf.Ways.{tells, decides-at, decides-like}
+use Rattle.rules.specs.Terms.{Term, sameByte, byteMatches, front, occurs}
+use Rattle.rules.proofs.Words.{all-none, all-more, all-same, all-is}
 
 -- one byte of the term further
 pub front-none : (t : Term) (text : List ℕ) (s : ℕ) → front t text s 0 ≡ true
@@ -77,3 +78,25 @@ occurs-stretch t text start l s h fits long =
     occurs-same t (take l (drop start text)) text s (start + s) ends (λ within i below.
     let lt : s + i < l = omega arith in
     getD-take l (drop start text) (s + i) 0 lt ∙ getD-drop start text (s + i) 0 ∙ ap (λ x. getD text x 0) (omega arith))
+
+-- with no byte in either case a byte matches exactly when it is the term's
+own-byte : (i p b : ℕ) → sameByte 0 i p b ≡ eqb b p
+own-byte i p b = grind (arith, tells)
+
+-- a term's own bytes stand at s exactly when the text's bytes there are these
+pub own-occurs : (bytes text : List ℕ) (s : ℕ) → s + length bytes ≤ length text → Decides (occurs (record { bytes = bytes; limit = 0 }) text s) (take (length bytes) (drop s text) ≡ bytes)
+unfolding front
+own-occurs bytes text s fits =
+    decides-at (occurs own text s) (front own text s (length bytes)) (occurs-within own text s fits)
+      (decides-like (front own text s (length bytes)) same each (all-is (λ i. byteMatches own i (getD text (s + i) 0)) (length bytes)))
+  where
+    own : Term
+    own = record { bytes = bytes; limit = 0 }
+    here : (i : ℕ) → i < length bytes → getD (take (length bytes) (drop s text)) i 0 ≡ getD text (s + i) 0
+    here i l = getD-take (length bytes) (drop s text) i 0 l ∙ getD-drop s text i 0
+    same : ((i : ℕ) → i < length bytes → byteMatches own i (getD text (s + i) 0) ≡ true) → take (length bytes) (drop s text) ≡ bytes
+    same h = ext-getD 0 (take (length bytes) (drop s text)) bytes (simp (length-take, length-drop) (omega arith)) (λ i below.
+        let l : i < length bytes = let b = simp (length-take, length-drop) at below in omega arith in
+        here i l ∙ eqb-true (getD text (s + i) 0) (getD bytes i 0) (sym (own-byte i (getD bytes i 0) (getD text (s + i) 0)) ∙ h i l))
+    each : take (length bytes) (drop s text) ≡ bytes → (i : ℕ) → i < length bytes → byteMatches own i (getD text (s + i) 0) ≡ true
+    each e i l = own-byte i (getD bytes i 0) (getD text (s + i) 0) ∙ eq-eqb (getD text (s + i) 0) (getD bytes i 0) (sym (here i l) ∙ ap (λ xs. getD xs i 0) e)

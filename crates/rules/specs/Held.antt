@@ -1,4 +1,4 @@
--- The term that a value of the code holds. Assumes nothing.
+-- The term or the term number that a value of the code holds. Assumes nothing.
 use mathlib.Core.List.{List}
 use Prim.Native.Nat.{ℕ}
 use lib.ListN.{take, length}
@@ -10,8 +10,9 @@ use Rattle.std.specs.Options.{mapped}
 use mathlib.Core.Path.{_≡_}
 use Rattle.rules.specs.declared.refusal.Refusal.{Refusal}
 use Rattle.rules.specs.declared.held.HeldTerm.{HeldTerm}
+use Rattle.rules.specs.declared.numbers.TermNumber.{TermNumber}
 use Rattle.rules.specs.Terms.{Term}
-use Rattle.rules.specs.Refusals.{malformed}
+use Rattle.rules.specs.Refusals.{numbering, malformed}
 
 -- the term in its array
 abbrev pub termOf : HeldTerm → Term
@@ -21,3 +22,8 @@ termOf h = record { bytes = take (h .len) (h .bytes); limit = h .limit }
 abbrev pub Held : List ℕ → ℕ → Result HeldTerm Refusal → Type 0
 Held bytes k (Ok h) = (termOf h ≡ record { bytes = bytes; limit = k }) × (malformed (length bytes) k ≡ None)
 Held bytes k (Err e) = malformed (length bytes) k ≡ Some e
+
+-- the number is one under which a term can stand, or it is refused
+abbrev pub Numbered : ℕ → Result TermNumber Refusal → Type 0
+Numbered number (Ok n) = (n .value ≡ number) × (numbering number ≡ None)
+Numbered number (Err e) = numbering number ≡ Some e

@@ -39,6 +39,10 @@ abbrev pub inOrder : Option Refusal → Option Refusal → Option Refusal
 inOrder (Some e) next = Some e
 inOrder None next = next
 
+-- why no term can stand under a number: it is above 15
+abbrev pub numbering : ℕ → Option Refusal
+numbering number = cond (ltb number 16) None (Some NumberTooHigh)
+
 -- why no term can have m bytes and the limit k: m is 1 to 64, and k is below m
 abbrev pub malformed : ℕ → ℕ → Option Refusal
 malformed m k = cond (leb 1 m && leb m 64) (cond (ltb k m) None (Some LimitTooHigh)) (Some TermLength)

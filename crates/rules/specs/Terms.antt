@@ -34,3 +34,11 @@ occurs t text s = leb (s + length (t .bytes)) (length text) && front t text s (l
 -- the word of a scan: bit s, of 64, is set exactly when the term occurs in the stretch at s
 abbrev pub scanned : Term → List ℕ → ℕ
 scanned t stretch = wordOf (occurs t stretch) 64
+
+-- the term with no byte in either case: it occurs exactly where the term's own bytes stand
+abbrev pub ownTerm : Term → Term
+ownTerm t = record { bytes = t .bytes; limit = 0 }
+
+-- the variant of the term at s: 0 where the text's bytes from s are the term's own, and 1 otherwise
+abbrev pub variantAt : Term → List ℕ → ℕ → ℕ
+variantAt t text s = cond (occurs (ownTerm t) text s) 0 1

@@ -4,3 +4,4 @@ pub mod held;
 pub mod numbers;
 pub mod refusal;
 pub mod terms;
+pub mod locator;

@@ -1,10 +1,6 @@
 // Making and reading held terms and term numbers.
 ghost use mathlib.Core.Path.{_≡_};
-ghost use mathlib.Core.Bool.{cond};
-ghost use lib.Dec.{ltb};
-ghost use Rattle.std.specs.Results.{Cases};
-ghost use Rattle.rules.specs.declared.refusal.Refusal.the-variants.{NumberTooHigh};
-ghost use Rattle.rules.specs.Held.{Held, termOf};
+ghost use Rattle.rules.specs.Held.{Held, Numbered, termOf};
 use super::held::HeldTerm;
 use super::numbers::TermNumber;
 use super::refusal::Refusal;
@@ -51,7 +47,7 @@ impl HeldTerm {
 impl TermNumber {
     // The number, where it is one.
     pub fn new(number: usize) -> Result<TermNumber, Refusal>
-        ensures cases { λ r. ⌜ Cases r (λ n. n .value ≡ number) (λ e. e ≡ NumberTooHigh) ⌝ }
+        ensures cases { λ r. ⌜ Numbered number r ⌝ }
     {
         if number > 15 {
             return Err(Refusal::NumberTooHigh);

@@ -1,0 +1,5 @@
+pub mod Bits
+pub mod Rows
+pub mod Owing
+pub mod Turns
+pub mod Firsts

@@ -1,0 +1,6 @@
+pub mod Units
+pub mod Terms
+pub mod Pages
+pub mod Debts
+pub mod Marks
+pub mod Books
