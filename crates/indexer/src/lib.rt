@@ -4,4 +4,5 @@ mod shown;
 mod look;
 mod variants;
 pub mod enter;
+pub mod work;
 pub mod locate;

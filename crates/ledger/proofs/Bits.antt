@@ -2,19 +2,19 @@
 use mathlib.Core.Path.{_≡_, refl, sym, ap, _∙_}
 use mathlib.Core.Logic.{_⊎_, inl, inr, ⊎-elim}
 use mathlib.Core.Bool.{Bool, true, false, cond, _||_, not}
-use Prim.Native.Nat.{ℕ, zero, suc, _+_, _-_, _*_, _/_, _%_, _^_, _<_, _≤_}
+use Prim.Native.Nat.{ℕ, zero, suc, _+_, _*_, _/_, _%_, _^_, _<_, _≤_}
 use native.Mathlib.Omega.{arith}
 use native.Mathlib.Nat.{zero-div, pow-suc}
 use lib.Bits.{bitOr, bitXor, or-shr, or-mod, xor-shr, xor-mod}
 use lib.Count.{ones, ones-step, ones-ones, trailingZeros, under}
 use lib.Dec.{eqb}
 use lib.ListN.{getD, replicate, length-replicate}
-use Rattle.std.proofs.shelf.Bits.{one-shl, pow-pos, pow-add, shl-shr, shr-shr, pow-below, div-below, mod-below}
+use Rattle.std.proofs.shelf.Bits.{one-shl, shr-shr, div-below, mod-below}
 use Rattle.std.proofs.shelf.Lists.{getD-replicate, getD-past}
-use Rattle.std.proofs.shelf.Tests.{cases-order, cases-lt, cases-eq, eq-eqb, ne-eqb}
+use Rattle.std.proofs.shelf.Tests.{cases-lt, cases-eq}
 use Rattle.rules.specs.Words.{bit, bitOf, count}
 use Rattle.rules.proofs.Words.{bit-is, word-one, bitOf-bit}
-use Rattle.rules.proofs.Counts.{count-row, count-none}
+use Rattle.rules.proofs.Counts.{count-row}
 
 two : (x : ℕ) → x < 2 → (x ≡ 0) ⊎ (x ≡ 1)
 two x h = ⊎-elim inl (λ ne. inr (omega (arith, ne))) (cases-eq x 0)
@@ -82,7 +82,7 @@ module _ (width w n j : ℕ) (h : n < width) where
 pub no-bits : (size i n : ℕ) → bit (getD (replicate size 0) i 0) n ≡ false
 no-bits size i n =
     let zeros : _≡_ {A = ℕ} (getD (replicate size 0) i 0) 0 =
-        ⊎-elim (λ (l : i < size). getD-replicate size i 0 0 l) (λ (l : size ≤ i). getD-past (replicate size 0) i 0 (simp length-replicate l)) (cases-lt i size) in
+    ⊎-elim (λ (l : i < size). getD-replicate size i 0 0 l) (λ (l : size ≤ i). getD-past (replicate size 0) i 0 (simp length-replicate l)) (cases-lt i size) in
     ap (λ w. bit w n) zeros ∙ bit-zero n
 
 -- the bits of the rest of a word
@@ -135,9 +135,9 @@ trailing-at zero x l = absurd (omega arith)
 trailing-at (suc k) x l =
     let t = trailingZeros k (x / 2) in
     ⊎-elim
-      (λ (even : x % 2 ≡ 0).
-        let z : trailingZeros (suc k) x ≡ suc t = ap (λ d. under d t) even in
-        let e : trailingZeros (suc k) x ≡ 1 + t = omega arith in
-        ap (bit x) e ∙ bit-half x t ∙ trailing-at k (x / 2) (omega arith))
-      (λ (odd : x % 2 ≡ 1). ap (λ d. bit x (under d t)) odd ∙ bit-of-one (bit x 0) (sym (bit-low x) ∙ odd))
-      (two (x % 2) (omega arith))
+    (λ (even : x % 2 ≡ 0).
+    let z : trailingZeros (suc k) x ≡ suc t = ap (λ d. under d t) even in
+    let e : trailingZeros (suc k) x ≡ 1 + t = omega arith in
+    ap (bit x) e ∙ bit-half x t ∙ trailing-at k (x / 2) (omega arith))
+    (λ (odd : x % 2 ≡ 1). ap (λ d. bit x (under d t)) odd ∙ bit-of-one (bit x 0) (sym (bit-low x) ∙ odd))
+    (two (x % 2) (omega arith))

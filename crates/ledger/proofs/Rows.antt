@@ -1,14 +1,14 @@
 -- The terms of the rows, after a row is written. Assumes nothing.
-use mathlib.Core.Path.{_≡_, refl, sym, ap, _∙_}
+use mathlib.Core.Path.{_≡_, sym, ap, _∙_}
 use mathlib.Core.Logic.{⊎-elim}
 use mathlib.Core.Bool.{cond}
 use mathlib.Core.List.{List, map}
 use Prim.Native.Nat.{ℕ, _<_, _≤_}
 use native.Mathlib.Omega.{arith}
 use lib.Dec.{eqb}
-use lib.ListN.{getD, set, length, replicate}
+use lib.ListN.{getD, set, length}
 use Rattle.std.specs.declared.option.Option.{Option}
-use Rattle.std.specs.declared.option.Option.the-variants.{Some, None}
+use Rattle.std.specs.declared.option.Option.the-variants.{None}
 use Rattle.std.proofs.shelf.Lists.{map-set, getD-set-same, getD-set-other, getD-map, length-map, getD-past}
 use Rattle.std.proofs.shelf.Tests.{cases-eq, eq-eqb, ne-eqb}
 use Rattle.rules.specs.Terms.{Term}
@@ -24,9 +24,9 @@ term-set rs i r n h =
     let old : Option Term = getD (map rowTerm rs) n None in
     ap (λ x. getD x n None) (map-set rowTerm rs i r)
     ∙ ⊎-elim
-      (λ (e : n ≡ i). ap (λ x. getD (set (map rowTerm rs) i (rowTerm r)) x None) e ∙ getD-set-same (map rowTerm rs) i (rowTerm r) None l ∙ ap (λ b. cond b (rowTerm r) old) (sym (eq-eqb n i e)))
-      (λ (e : n ≡ i → ⊥). getD-set-other (map rowTerm rs) i n (rowTerm r) None e ∙ ap (λ b. cond b (rowTerm r) old) (sym (ne-eqb n i e)))
-      (cases-eq n i)
+    (λ (e : n ≡ i). ap (λ x. getD (set (map rowTerm rs) i (rowTerm r)) x None) e ∙ getD-set-same (map rowTerm rs) i (rowTerm r) None l ∙ ap (λ b. cond b (rowTerm r) old) (sym (eq-eqb n i e)))
+    (λ (e : n ≡ i → ⊥). getD-set-other (map rowTerm rs) i n (rowTerm r) None e ∙ ap (λ b. cond b (rowTerm r) old) (sym (ne-eqb n i e)))
+    (cases-eq n i)
 
 -- a row is read
 pub term-read : (rs : List Row) (n : ℕ) (d : Row) → n < length rs → rowTerm (getD rs n d) ≡ getD (map rowTerm rs) n None

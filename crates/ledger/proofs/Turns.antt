@@ -1,17 +1,14 @@
 -- The last page, and the page of a start. Assumes nothing.
-use mathlib.Core.Path.{_≡_, refl, sym, ap, _∙_}
+use mathlib.Core.Path.{_≡_, sym, ap, _∙_}
 use mathlib.Core.Logic.{⊎-elim}
 use mathlib.Core.Bool.{Bool, true, false, cond}
-use mathlib.Core.List.{List}
 use Prim.Native.Nat.{ℕ, zero, suc, _+_, _-_, _<_, _≤_}
 use native.Mathlib.Omega.{arith}
 use lib.Dec.{leb, ltb}
-use lib.ListN.{length, getD, take}
-use Rattle.std.specs.declared.option.Option.{Option}
+use lib.ListN.{length, getD}
 use Rattle.std.specs.declared.option.Option.the-variants.{Some, None}
 use Rattle.std.proofs.shelf.Lists.{length-take-le, getD-take}
 use Rattle.std.proofs.shelf.Tests.{cases-eq, lt-ltb, le-ltb, le-leb, lt-leb}
-use Rattle.rules.specs.declared.refusal.Refusal.{Refusal}
 use Rattle.rules.specs.declared.refusal.Refusal.the-variants.{PageOrder, PagesFull}
 use Rattle.ledger.specs.declared.page_table.Pages.{Pages}
 use Rattle.ledger.specs.Pages.{pageStarts, lastStart, opening, lastPassing, pageAt, placeAt}
@@ -47,21 +44,21 @@ unfolding lastPassing
 lastPassing-at q zero i l on off = absurd (omega arith)
 lastPassing-at q (suc n) i l on off =
     ⊎-elim
-      (λ (e : i ≡ n). ap (λ b. cond b (suc n) (lastPassing q n)) (ap q (sym e) ∙ on) ∙ omega arith)
-      (λ (e : i ≡ n → ⊥).
-        ap (λ b. cond b (suc n) (lastPassing q n)) (off n (omega (arith, e)) (omega arith))
-        ∙ lastPassing-at q n i (omega (arith, e)) on (λ k a b. off k a (omega arith)))
-      (cases-eq i n)
+    (λ (e : i ≡ n). ap (λ b. cond b (suc n) (lastPassing q n)) (ap q (sym e) ∙ on) ∙ omega arith)
+    (λ (e : i ≡ n → ⊥).
+    ap (λ b. cond b (suc n) (lastPassing q n)) (off n (omega (arith, e)) (omega arith))
+    ∙ lastPassing-at q n i (omega (arith, e)) on (λ k a b. off k a (omega arith)))
+    (cases-eq i n)
 
 -- page i + 1 begins at or before s, and no later page does
 module _ (p : Pages) (s i : ℕ) (l : i < p .len) (on : getD (p .starts) i 0 ≤ s) (off : (k : ℕ) → i < k → k < p .len → s < getD (p .starts) k 0) where
   pub page-found : pageAt (pageStarts p) s ≡ i + 1
   page-found =
       lastPassing-at (λ k. leb (getD (pageStarts p) k 0) s) (length (pageStarts p)) i (omega (arith, length-starts p))
-        (ap (λ x. leb x s) (start-at p i l) ∙ le-leb _ _ on)
-        (λ k a b.
-          let within : k < p .len = omega (arith, length-starts p) in
-          ap (λ x. leb x s) (start-at p k within) ∙ lt-leb _ _ (off k a within))
+      (ap (λ x. leb x s) (start-at p i l) ∙ le-leb _ _ on)
+      (λ k a b.
+      let within : k < p .len = omega (arith, length-starts p) in
+      ap (λ x. leb x s) (start-at p k within) ∙ lt-leb _ _ (off k a within))
 
   pub place-found : placeAt (pageStarts p) s ≡ s - getD (p .starts) i 0
   place-found =

@@ -10,7 +10,7 @@ use Rattle.std.specs.declared.option.Option.the-variants.{Some, None}
 use Rattle.rules.specs.Terms.{Term}
 use Rattle.rules.specs.Words.{bit}
 use Rattle.ledger.specs.declared.book.Ledger.{Ledger}
-use Rattle.ledger.specs.declared.unit.Unit as declared
+use Rattle.ledger.specs.declared.unit.Unit.{Unit}
 use Rattle.ledger.specs.Terms.{standing, Stood}
 use Rattle.ledger.specs.Pages.{pageStarts}
 use Rattle.ledger.specs.Debts.{owes, Cleared}
@@ -36,7 +36,7 @@ markBy None s old = old
 markBy (Some word) s old = bit word s
 
 -- the unit is owed no more, and the word, if there is one, has the marks of its number at its block
-pub record Settled (i : Ledger) (u : declared.Unit) (word : Option ℕ) (j : Ledger) : Type 0 where
+pub record Settled (i : Ledger) (u : Unit) (word : Option ℕ) (j : Ledger) : Type 0 where
   pub terms : j .terms ≡ i .terms
   pub pages : j .pages ≡ i .pages
   pub debts : Cleared (i .debts) u (j .debts)

@@ -6,12 +6,12 @@ use lib.Dec.{eqb}
 use lib.ListN.{getD}
 use Rattle.rules.specs.Words.{bit}
 use Rattle.ledger.specs.declared.marks.Marks.{Marks}
-use Rattle.ledger.specs.declared.unit.Unit as declared
+use Rattle.ledger.specs.declared.unit.Unit.{Unit}
 
 -- the term under the number n is marked at the start s
 abbrev pub marked : Marks → ℕ → ℕ → Bool
 marked m n s = bit (getD (m .words) s 0) n
 
 -- the marks of the unit's number at the starts of the unit's block are the word's bits, and the others as before
-abbrev pub Stored : Marks → declared.Unit → ℕ → Marks → Type 0
+abbrev pub Stored : Marks → Unit → ℕ → Marks → Type 0
 Stored m u word o = (n s : ℕ) → marked o n s ≡ cond (eqb n (u .number .value) && eqb (s / 64) (u .block)) (bit word (s % 64)) (marked m n s)

@@ -3,7 +3,7 @@ ghost use mathlib.Core.Path.{_≡_};
 ghost use mathlib.Core.Bool.{false};
 ghost use Prim.Native.Nat.{ℕ};
 ghost use Rattle.rules.specs.Words.{count};
-ghost use Rattle.ledger.specs.Debts.{owes, owed, Owed, Cleared};
+ghost use Rattle.ledger.specs.Debts.{owes, owed, Owed, Cleared, Lowest, FirstOwed};
 use super::unit::Unit;
 use super::words;
 use rules::numbers::TermNumber;
@@ -12,6 +12,13 @@ use rules::numbers::TermNumber;
 #[derive(Drop)]
 pub struct Debts {
     words: [u16; 256],
+}
+
+// The lowest number whose bit is set.
+fn lowest(word: u16) -> Option<TermNumber>
+    ensures value { λ r. ⌜ Lowest word r ⌝ }
+{
+    TermNumber::new(word.trailing_zeros() as usize).ok()
 }
 
 impl Debts {
@@ -46,6 +53,21 @@ impl Debts {
         ensures value { λ r. ⌜ r ≡ owes (now (self .entry)) (unit .number .value) (unit .block) ⌝ }
     {
         words::has(self.words[unit.block as usize], unit.number)
+    }
+
+    // The first unit that is owed, in the order of work, at a block from `from` on.
+    pub fn first(&self, from: u8) -> Option<Unit>
+        ensures value { λ r. ⌜ FirstOwed (now (self .entry)) from r ⌝ }
+    {
+        for b in from as usize..256 {
+            if let Some(number) = lowest(self.words[b]) {
+                return Some(Unit {
+                    number,
+                    block: b as u8,
+                });
+            }
+        }
+        None
     }
 
     // How many units are owed.

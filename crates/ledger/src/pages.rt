@@ -14,7 +14,10 @@ impl Pages {
     pub fn new() -> Pages
         ensures value { λ r. ⌜ pageStarts r ≡ 0 ∷ [] ⌝ }
     {
-        Pages { starts: [0; 256], len: 1 }
+        Pages {
+            starts: [0; 256],
+            len: 1,
+        }
     }
 
     // Opens a page that starts at `at`.
@@ -42,9 +45,15 @@ impl Pages {
         for i in (1..self.len).rev() {
             let first = self.starts[i];
             if first <= start {
-                return PagePlace { page: i as u16 + 1, place: start - first };
+                return PagePlace {
+                    page: i as u16 + 1,
+                    place: start - first,
+                };
             }
         }
-        PagePlace { page: 1, place: start }
+        PagePlace {
+            page: 1,
+            place: start,
+        }
     }
 }

@@ -39,7 +39,11 @@ impl Terms {
     pub fn new() -> Terms
         ensures value { λ r. ⌜ ((n : ℕ) → standing r n ≡ None) ⌝ }
     {
-        Terms { table: Table { rows: [Row { term: None }; 16] } }
+        Terms {
+            table: Table {
+                rows: [Row { term: None }; 16],
+            },
+        }
     }
 
     // The term under the number.

@@ -1,4 +1,4 @@
--- How many units are owed, one unit further, and with one unit less. Assumes nothing.
+-- How many tests pass, one test further, and after the first of those that pass are dropped. Assumes nothing.
 use mathlib.Core.Path.{_≡_, refl, sym, ap, _∙_, subst}
 use mathlib.Core.Logic.{_⊎_, inl, inr, ⊎-elim}
 use mathlib.Core.Bool.{Bool, true, false, cond, _&&_}
@@ -26,13 +26,13 @@ one-false b e = ap bitOf e
 cases-le : (a b : ℕ) → (a ≤ b) ⊎ (b < a)
 cases-le a b = ⊎-elim inr inl (cases-lt b a)
 
--- two machines that owe the same units
+-- two tests that agree
 pub count-same : (f g : ℕ → Bool) → ((y : ℕ) → f y ≡ g y) → (x : ℕ) → count f x ≡ count g x
 unfolding count
 count-same f g h zero = refl
 count-same f g h (suc x) = let e : count f x ≡ count g x = count-same f g h x in let k : bitOf (f x) ≡ bitOf (g x) = ap bitOf (h x) in omega arith
 
--- the units of f that are left after the first d of them were done
+-- what is left of f after the first d that pass are dropped
 abbrev pub left : (ℕ → Bool) → ℕ → ℕ → Bool
 left f d x = f x && leb d (count f x)
 
@@ -41,7 +41,23 @@ unfolding count
 count-le f x zero = simp native.Mathlib.Nat.add-zero (omega arith)
 count-le f x (suc y) = let h = count-le f x y in simp native.Mathlib.Nat.add-suc (omega arith)
 
--- what is left of the first x units
+-- past one that passes there are more
+pub count-apart : (f : ℕ → Bool) (x y : ℕ) → f x ≡ true → x < y → count f x < count f y
+count-apart f x y on l =
+    let m = count-more f x in
+    let o = one-true (f x) on in
+    let e : x + 1 + (y - x - 1) ≡ y = omega arith in
+    let p : count f (x + 1) ≤ count f y = subst (λ z. count f (x + 1) ≤ count f z) e (count-le f (x + 1) (y - x - 1)) in
+    omega arith
+
+-- one that passes is known by how many pass before it
+pub count-tells : (f : ℕ → Bool) (x y : ℕ) → f x ≡ true → f y ≡ true → count f x ≡ count f y → x ≡ y
+count-tells f x y on also same =
+    ⊎-elim (λ (e : x ≡ y). e)
+      (⊎-elim (λ (l : x < y). let h = count-apart f x y on l in absurd (omega arith)) (λ (l : y < x). let h = count-apart f y x also l in absurd (omega arith)))
+      (cases-order x y)
+
+-- how many are left of the first x
 pub count-left : (f : ℕ → Bool) (d x : ℕ) → count (left f d) x ≡ count f x - d
 unfolding count
 count-left f d zero = omega arith
@@ -64,10 +80,10 @@ count-below f (suc x) none =
     let h : count f x ≡ 0 = count-below f x (λ y l. none y (omega arith)) in
     let o : bitOf (f x) ≡ 0 = ap bitOf (none x (omega arith)) in omega arith
 
--- the next unit after the first d
+-- the next one after the first d
 module _ (f : ℕ → Bool) (d x : ℕ) (on : left f d x ≡ true) (first : (y : ℕ) → y < x → left f d y ≡ false) where
-  pub next-owed : f x ≡ true
-  next-owed = and-parts (f x) (leb d (count f x)) on .0
+  pub next-passes : f x ≡ true
+  next-passes = and-parts (f x) (leb d (count f x)) on .0
 
   pub next-count : count f x ≡ d
   next-count =
@@ -89,29 +105,18 @@ module _ (f : ℕ → Bool) (d x : ℕ) (on : left f d x ≡ true) (first : (y :
       ap (λ b. cond b false (left f d y)) (ne-eqb y x (λ q. omega arith)) ∙ e ∙ sym (fewer (f y) (count f y) e))
       (λ (l : x < y).
       let n = next-count in
-      let m = count-more f x in
-      let o = one-true (f x) next-owed in
-      let p : count f (x + 1) ≤ count f y = subst (λ z. count f (x + 1) ≤ count f z) (back l) (count-le f (x + 1) (y - x - 1)) in
+      let p = count-apart f x y next-passes l in
       ap (λ b. cond b false (left f d y)) (ne-eqb y x (λ q. omega arith)) ∙ ap (λ b. f y && b) (le-leb d (count f y) (omega arith) ∙ sym (le-leb (d + 1) (count f y) (omega arith)))))
       (cases-order y x)
     where
-      back : x < y → x + 1 + (y - x - 1) ≡ y
-      back l = omega arith
-
       fewer : (b : Bool) (k : ℕ) → (b && leb d k) ≡ false → (b && leb (d + 1) k) ≡ false
       fewer true k e = let l = leb-false d k e in lt-leb (d + 1) k (omega arith)
       fewer false k e = refl
 
   pub next-within : (z : ℕ) → x < z → d + 1 ≤ count f z
-  next-within z l =
-      let n = next-count in
-      let m = count-more f x in
-      let o = one-true (f x) next-owed in
-      let e : x + 1 + (z - x - 1) ≡ z = omega arith in
-      let p : count f (x + 1) ≤ count f z = subst (λ y. count f (x + 1) ≤ count f y) e (count-le f (x + 1) (z - x - 1)) in
-      omega arith
+  next-within z l = let n = next-count in let p = count-apart f x z next-passes l in omega arith
 
--- k units more, as another function has them
+-- k tests more, as another function has them
 pub count-row : (f g : ℕ → Bool) (a k : ℕ) → ((n : ℕ) → n < k → f (a + n) ≡ g n) → count f (a + k) ≡ count f a + count g k
 unfolding count
 count-row f g a zero h = simp native.Mathlib.Nat.add-zero refl
@@ -120,15 +125,10 @@ count-row f g a (suc k) h =
     let o : bitOf (f (a + k)) ≡ bitOf (g k) = ap bitOf (h k (omega arith)) in
     simp native.Mathlib.Nat.add-suc (omega arith)
 
--- where none is owed
-pub none-owed : (f : ℕ → Bool) (x : ℕ) → count f x ≡ 0 → (y : ℕ) → y < x → f y ≡ false
-none-owed f x none y below =
+-- where none passes
+pub none-passes : (f : ℕ → Bool) (x : ℕ) → count f x ≡ 0 → (y : ℕ) → y < x → f y ≡ false
+none-passes f x none y below =
     ⊎-elim
-    (λ (on : f y ≡ true).
-    let m = count-more f y in
-    let o = one-true (f y) on in
-    let e : y + 1 + (x - y - 1) ≡ x = omega arith in
-    let p : count f (y + 1) ≤ count f x = subst (λ z. count f (y + 1) ≤ count f z) e (count-le f (y + 1) (x - y - 1)) in
-    absurd (let z : 1 ≤ 0 = omega arith in omega arith))
+    (λ (on : f y ≡ true). let p = count-apart f y x on below in absurd (omega arith))
     (λ (off : f y ≡ false). off)
     (cases-bool (f y))

@@ -1,11 +1,9 @@
-use mathlib.Core.Path.{_≡_, sym, ap, _∙_}
-use Prim.Native.Nat.{ℕ, _+_, _*_, _/_, _%_, _<_, _^_}
+use mathlib.Core.Path.{sym}
+use Prim.Native.Nat.{_<_, _^_}
 use native.Mathlib.Omega.{arith}
-use lib.Count.{ones, ones-le}
+use lib.Count.{ones-le}
 use lib.ListN.{getD}
-use Rattle.rules.specs.Words.{bit, count}
 use Rattle.rules.proofs.Counts.{count-none}
-use Rattle.ledger.specs.Debts.{owed}
 use Rattle.ledger.proofs.Bits.{ones-count}
 use Rattle.ledger.proofs.Owing.{count-block}
 use Rattle.ledger.proofs.debts.Debts.count.Needs as need

@@ -12,6 +12,8 @@ ends : (from at end b : ℕ) → at ≤ max from end → end ≤ at → (leb fro
 ends from at end b low high = grind (arith, tells)
 
 pub returns : need.returns
-returns c = record { after = λ n b.
-    let same = ends (c .args .from) (c .loop-b .b) (min (c .args .to) 256) b (omega arith) (omega arith) in
-    c .loop-b .inv .0 n b ∙ ap (λ t. cond (eqb n (c .args .number .value) && t) true (owes (c .args .self .now) n b)) same }
+returns c = record {
+  after = λ n b.
+      let same = ends (c .args .from) (c .loop-b .b) (min (c .args .to) 256) b (omega arith) (omega arith) in
+      c .loop-b .inv .0 n b ∙ ap (λ t. cond (eqb n (c .args .number .value) && t) true (owes (c .args .self .now) n b)) same;
+}

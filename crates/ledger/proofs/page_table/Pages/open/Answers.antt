@@ -1,15 +1,9 @@
-use mathlib.Core.Path.{_≡_, refl, sym, ap, _∙_}
-use mathlib.Core.Bool.{true, false}
-use Prim.Native.Nat.{ℕ, _-_}
+use mathlib.Core.Path.{refl, sym, ap}
 use native.Mathlib.Omega.{arith}
-use lib.Dec.{ltb}
-use lib.ListN.{length, getD}
 use Rattle.std.proofs.shelf.Lists.{take-more-set}
-use Rattle.std.proofs.shelf.Tests.{lt-ltb, le-ltb}
 use Rattle.std.proofs.shelf.Tests.{true≢false}
 use Rattle.rules.specs.Refusals.{answerOf}
-use Rattle.ledger.specs.Pages.{pageStarts, lastStart, opening}
-use Rattle.ledger.proofs.Turns.{length-starts, last-start, opening-late, opening-full, opening-free}
+use Rattle.ledger.proofs.Turns.{opening-late, opening-full, opening-free}
 use Rattle.ledger.proofs.page_table.Pages.open.Needs as need
 
 pub returns-then-at-self : need.returns-then-at-self
@@ -22,5 +16,5 @@ pub returns : need.returns
 returns c = record {
   value = sym (ap answerOf (opening-free (c .args .self .now) (c .args .at) (c .if-at-self .left) (omega arith)));
   after = take-more-set (c .args .self .now .starts) (c .args .self .now .len) (c .args .at) (omega (arith, c .args .self .now .whole));
-  same = λ e. absurd (true≢false e)
+  same = λ e. absurd (true≢false e);
 }

@@ -5,6 +5,8 @@ use Rattle.ledger.proofs.Rows.{term-read}
 use Rattle.ledger.proofs.row.Terms.term.Needs as need
 
 pub returns : need.returns
-returns c = record { value =
-    let ts = c .args .self .now in
-    term-read (ts .table .rows) (c .get .result) (c .index-self-get .result) (omega (arith, ts .sixteen)) ∙ ap (standing ts) (c .get .ensures .value) }
+returns c = record {
+  value =
+      let ts = c .args .self .now in
+      term-read (ts .table .rows) (c .get .result) (c .index-self-get .result) (omega (arith, ts .sixteen)) ∙ ap (standing ts) (c .get .ensures .value);
+}
