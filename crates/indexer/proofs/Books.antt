@@ -29,10 +29,10 @@ same-term x t e = cc
 -- a ledger in which nothing stands is right
 pub blank-right : (fit : ℕ → ℕ → Bool) (text : List ℕ) (l : Ledger) → Blank l → Right fit text l
 blank-right fit text l blank = record {
-    fits = λ n t stands. absurd (none-some (standing (l .terms) n) t (blank .terms n) stands);
-    owing = λ n b on. absurd (both-ways (owes (l .debts) n b) (blank .debts n b) on);
-    marks = λ n s t stands below paid. absurd (none-some (standing (l .terms) n) t (blank .terms n) stands);
-  }
+  fits = λ n t stands. absurd (none-some (standing (l .terms) n) t (blank .terms n) stands);
+  owing = λ n b on. absurd (both-ways (owes (l .debts) n b) (blank .debts n b) on);
+  marks = λ n s t stands below paid. absurd (none-some (standing (l .terms) n) t (blank .terms n) stands);
+}
 
 -- within the 256 blocks of a text
 pub in-blocks : (b size : ℕ) → size ≤ 16384 → (ltb (64 * b) size && ltb b 256) ≡ ltb (64 * b) size
@@ -53,34 +53,35 @@ module _ (fit : ℕ → ℕ → Bool) (text : List ℕ) (i j : Ledger) (number :
 
   pub entered-right : isSome (standing (i .terms) number) ≡ false → fit (length (term .bytes)) (term .limit) ≡ true → Right fit text i → Right fit text j
   entered-right free fits right = record {
-      fits = λ n t stands.
+    fits = λ n t stands.
+        ⊎-elim
+        (λ (e : n ≡ number). subst (λ (u : Term). fit (length (u .bytes)) (u .limit) ≡ true) (same-term term t (sym (here n e) ∙ stands)) fits)
+        (λ (ne : n ≡ number → ⊥). right .fits n t (sym (other n ne) ∙ stands))
+        (cases-eq n number);
+    owing = λ n b on.
+        ⊎-elim
+        (λ (e : n ≡ number). (
+          ap isSome (here n e),
           ⊎-elim
-            (λ (e : n ≡ number). subst (λ (u : Term). fit (length (u .bytes)) (u .limit) ≡ true) (same-term term t (sym (here n e) ∙ stands)) fits)
-            (λ (ne : n ≡ number → ⊥). right .fits n t (sym (other n ne) ∙ stands))
-            (cases-eq n number);
-      owing = λ n b on.
-          ⊎-elim
-            (λ (e : n ≡ number).
-              (ap isSome (here n e),
-               ⊎-elim
-                 (λ (l : ltb (64 * b) (length text) ≡ true). ltb-true (64 * b) (length text) l)
-                 (λ (l : ltb (64 * b) (length text) ≡ false).
-                   let was : owes (i .debts) n b ≡ true = sym (entered-owes n b ∙ ap (λ x. cond (eqb n number && x) true (owes (i .debts) n b)) l ∙ both (eqb n number) (owes (i .debts) n b)) ∙ on in
-                   right .owing n b was .1)
-                 (cases-bool (ltb (64 * b) (length text)))))
-            (λ (ne : n ≡ number → ⊥).
-              let was = right .owing n b (sym (other-owes n b ne) ∙ on) in
-              (ap isSome (other n ne) ∙ was .0, was .1))
-            (cases-eq n number);
-      marks = λ n s t stands below paid.
-          ⊎-elim
-            (λ (e : n ≡ number).
-              let on : (eqb n number && ltb (64 * (s / 64)) (length text)) ≡ true = and-from (eqb n number) (ltb (64 * (s / 64)) (length text)) (eq-eqb n number e) (lt-ltb (64 * (s / 64)) (length text) (omega arith)) in
-              absurd (both-ways (owes (j .debts) n (s / 64)) paid (entered-owes n (s / 64) ∙ ap (λ b. cond b true (owes (i .debts) n (s / 64))) on)))
-            (λ (ne : n ≡ number → ⊥).
-              ap (λ m. marked m n s) (entered .marks) ∙ right .marks n s t (sym (other n ne) ∙ stands) below (sym (other-owes n (s / 64) ne) ∙ paid))
-            (cases-eq n number);
-    }
+              (λ (l : ltb (64 * b) (length text) ≡ true). ltb-true (64 * b) (length text) l)
+              (λ (l : ltb (64 * b) (length text) ≡ false).
+              let was : owes (i .debts) n b ≡ true = sym (entered-owes n b ∙ ap (λ x. cond (eqb n number && x) true (owes (i .debts) n b)) l ∙ both (eqb n number) (owes (i .debts) n b)) ∙ on in
+              right .owing n b was .1)
+              (cases-bool (ltb (64 * b) (length text))),
+        ))
+        (λ (ne : n ≡ number → ⊥).
+        let was = right .owing n b (sym (other-owes n b ne) ∙ on) in
+        (ap isSome (other n ne) ∙ was .0, was .1))
+        (cases-eq n number);
+    marks = λ n s t stands below paid.
+        ⊎-elim
+        (λ (e : n ≡ number).
+        let on : (eqb n number && ltb (64 * (s / 64)) (length text)) ≡ true = and-from (eqb n number) (ltb (64 * (s / 64)) (length text)) (eq-eqb n number e) (lt-ltb (64 * (s / 64)) (length text) (omega arith)) in
+        absurd (both-ways (owes (j .debts) n (s / 64)) paid (entered-owes n (s / 64) ∙ ap (λ b. cond b true (owes (i .debts) n (s / 64))) on)))
+        (λ (ne : n ≡ number → ⊥).
+        ap (λ m. marked m n s) (entered .marks) ∙ right .marks n s t (sym (other n ne) ∙ stands) below (sym (other-owes n (s / 64) ne) ∙ paid))
+        (cases-eq n number);
+  }
     where
       both : (x o : Bool) → cond (x && false) true o ≡ o
       both true o = refl

@@ -69,16 +69,16 @@ module _ {M G : Type 0} (held : M → Option Term) (fit : M → ℕ → ℕ → 
   -- a call that leaves the indexer and the machine alone
   pub unchanged : (c : Call) (a : Answer) → doing (view text i) c ≡ 0 → a ≡ answer (fit (i .matcher)) (view text i) c → step (fit (i .matcher)) shows (view text i) c ≡ view text i → Called held fit text shows i c a i
   unchanged c a none answers stays = record {
-      answers = answers;
-      follows = sym stays;
-      job = refl;
-      galley = refl;
-      fits = λ m k. refl;
-      matcher = λ _. refl;
-      holds = λ sound x owed last. absurd (let z : _≡_ {A = ℕ} 0 1 = omega arith in omega arith);
-      same = λ _. refl;
-      sound = λ sound. sound;
-    }
+    answers = answers;
+    follows = sym stays;
+    job = refl;
+    galley = refl;
+    fits = λ m k. refl;
+    matcher = λ _. refl;
+    holds = λ sound x owed last. absurd (let z : _≡_ {A = ℕ} 0 1 = omega arith in omega arith);
+    same = λ _. refl;
+    sound = λ sound. sound;
+  }
 
   module _ (number k : ℕ) (term : List ℕ) where
     pub enter-refused : (e : Refusal) (r : Result (Unit {0}) Refusal) → r ≡ Err e → entering (fit (i .matcher)) (view text i) number k term ≡ Some e → Called held fit text shows i (enter number k term) (said r) i
@@ -89,19 +89,19 @@ module _ {M G : Type 0} (held : M → Option Term) (fit : M → ℕ → ℕ → 
         Entered (i .ledger) number t (length (text (i .galley))) l → isSome (view text i .stands number) ≡ false → fit (i .matcher) (length term) k ≡ true →
         Called held fit text shows i (enter number k term) (said (Ok tt)) (record { matcher = i .matcher; galley = i .galley; job = i .job; ledger = l })
     enter-called l t why is short entered free fits = record {
-        answers = sym (ap (λ o. said (answerOf o)) why);
-        follows = same-machine refl (ap pageStarts (entered .pages)) (λ n. entered .terms n ∙ ap (λ u. cond (eqb n number) (Some u) (view text i .stands n)) is)
-            (λ x. entered-owes (fit (i .matcher)) (text (i .galley)) (i .ledger) l number t short entered (x % 16) (x / 16))
+      answers = sym (ap (λ o. said (answerOf o)) why);
+      follows = same-machine refl (ap pageStarts (entered .pages)) (λ n. entered .terms n ∙ ap (λ u. cond (eqb n number) (Some u) (view text i .stands n)) is)
+          (λ x. entered-owes (fit (i .matcher)) (text (i .galley)) (i .ledger) l number t short entered (x % 16) (x / 16))
           ∙ sym (ap (λ o. afterEnter shows (view text i) number k term o) why);
-        job = refl;
-        galley = refl;
-        fits = λ m q. refl;
-        matcher = λ _. refl;
-        holds = λ sound x owed last. absurd (let z : _≡_ {A = ℕ} 0 1 = omega arith in omega arith);
-        same = λ no. absurd (both-ways false refl no);
-        sound = λ right. entered-right (fit (i .matcher)) (text (i .galley)) (i .ledger) l number t short entered free
-            (let m : length (t .bytes) ≡ length term = ap (λ (u : Term). length (u .bytes)) is ∙ length-map term shows in let q : t .limit ≡ k = ap (λ (u : Term). u .limit) is in cc) right;
-      }
+      job = refl;
+      galley = refl;
+      fits = λ m q. refl;
+      matcher = λ _. refl;
+      holds = λ sound x owed last. absurd (let z : _≡_ {A = ℕ} 0 1 = omega arith in omega arith);
+      same = λ no. absurd (both-ways false refl no);
+      sound = λ right. entered-right (fit (i .matcher)) (text (i .galley)) (i .ledger) l number t short entered free
+          (let m : length (t .bytes) ≡ length term = ap (λ (u : Term). length (u .bytes)) is ∙ length-map term shows in let q : t .limit ≡ k = ap (λ (u : Term). u .limit) is in cc) right;
+    }
 
 -- whether a term stands, by the row
 pub some-mapped : {A B : Type 0} (f : A → B) (o : Option A) → isSome (mapped f o) ≡ isSome o

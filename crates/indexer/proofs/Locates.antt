@@ -47,12 +47,12 @@ module _ {M G : Type 0} (fit : M → ℕ → ℕ → Bool) (text : G → List �
   start-same t small stands right s below =
       ap (λ o. marked (i .ledger .marks) number s && not o) (sym (unit-owes (i .ledger) number (s / 64) small))
       ∙ ⊎-elim
-          (λ (on : owed (i .ledger .debts) (16 * (s / 64) + number) ≡ true).
-            let off : not (owed (i .ledger .debts) (16 * (s / 64) + number)) ≡ false = not-from-true _ on in
-            and-right (marked (i .ledger .marks) number s) _ off ∙ sym (and-right (occurs t (text (i .galley)) s) _ off))
-          (λ (off : owed (i .ledger .debts) (16 * (s / 64) + number) ≡ false).
-            ap (λ b. b && not (owed (i .ledger .debts) (16 * (s / 64) + number))) (right .marks number s t stands below (sym (unit-owes (i .ledger) number (s / 64) small) ∙ off)))
-          (cases-bool (owed (i .ledger .debts) (16 * (s / 64) + number)))
+      (λ (on : owed (i .ledger .debts) (16 * (s / 64) + number) ≡ true).
+      let off : not (owed (i .ledger .debts) (16 * (s / 64) + number)) ≡ false = not-from-true _ on in
+      and-right (marked (i .ledger .marks) number s) _ off ∙ sym (and-right (occurs t (text (i .galley)) s) _ off))
+      (λ (off : owed (i .ledger .debts) (16 * (s / 64) + number) ≡ false).
+      ap (λ b. b && not (owed (i .ledger .debts) (16 * (s / 64) + number))) (right .marks number s t stands below (sym (unit-owes (i .ledger) number (s / 64) small) ∙ off)))
+      (cases-bool (owed (i .ledger .debts) (16 * (s / 64) + number)))
 
   same-first : (o : Option Term) → number < 16 → view text i .stands number ≡ o → Sound fit text i → firstOf (λ t. byMarks (i .ledger) number) (view text i) o from ≡ firstOf (listed (view text i) number) (view text i) o from
   same-first None small stands right = refl
@@ -62,9 +62,9 @@ module _ {M G : Type 0} (fit : M → ℕ → ℕ → Bool) (text : G → List �
   same-locator : Sound fit text i → locating (λ t. byMarks (i .ledger) number) (view text i) number from ≡ locating (listed (view text i) number) (view text i) number from
   same-locator right =
       ⊎-elim
-        (λ (e : ltb number 16 ≡ true). ap (λ r. cond (ltb number 16) r (Err NumberTooHigh)) (same-first (view text i .stands number) (ltb-true number 16 e) refl right))
-        (λ (e : ltb number 16 ≡ false). ap (λ b. cond b (firstOf (λ t. byMarks (i .ledger) number) (view text i) (view text i .stands number) from) (Err NumberTooHigh)) e ∙ sym (ap (λ b. cond b (firstOf (listed (view text i) number) (view text i) (view text i .stands number) from) (Err NumberTooHigh)) e))
-        (cases-bool (ltb number 16))
+      (λ (e : ltb number 16 ≡ true). ap (λ r. cond (ltb number 16) r (Err NumberTooHigh)) (same-first (view text i .stands number) (ltb-true number 16 e) refl right))
+      (λ (e : ltb number 16 ≡ false). ap (λ b. cond b (firstOf (λ t. byMarks (i .ledger) number) (view text i) (view text i .stands number) from) (Err NumberTooHigh)) e ∙ sym (ap (λ b. cond b (firstOf (listed (view text i) number) (view text i) (view text i .stands number) from) (Err NumberTooHigh)) e))
+      (cases-bool (ltb number 16))
 
   -- what the marks give is what the rules give
   pub located : (r : Result (Option Locator) Refusal) → r ≡ locating (λ t. byMarks (i .ledger) number) (view text i) number from → Located fit text i number from r
@@ -77,4 +77,4 @@ module _ {M G : Type 0} (fit : M → ℕ → ℕ → Bool) (text : G → List �
       let n : min size 16384 ≡ length (text (i .galley)) = omega arith in
       ap (λ x. Ok (mapped (locatorAt (view text i) t) x)) (first ∙ ap (λ k. firstFrom (byMarks (i .ledger) number) from k) n)
       ∙ sym (ap (λ b. cond b (firstOf (λ t. byMarks (i .ledger) number) (view text i) (view text i .stands number) from) (Err NumberTooHigh)) (number-below number numbered)
-             ∙ ap (λ x. firstOf (λ t. byMarks (i .ledger) number) (view text i) x from) stands)
+      ∙ ap (λ x. firstOf (λ t. byMarks (i .ledger) number) (view text i) x from) stands)

@@ -26,13 +26,16 @@ module _ {M G : Type 0} (held : M → Option Term) (fit : M → ℕ → ℕ → 
   -- before the first unit
   pub ran-none : Ran held fit text i 0 i
   ran-none = record {
-      galley = refl; job = refl; terms = refl; pages = refl;
-      fits = λ m k. refl;
-      owes = λ x. all-left (owed (i .ledger .debts) x) (count (owed (i .ledger .debts)) x);
-      matcher = λ _. refl;
-      holds = λ right x on last. absurd (let z : _≡_ {A = ℕ} 0 1 = omega arith in omega arith);
-      sound = λ right. right;
-    }
+    galley = refl;
+    job = refl;
+    terms = refl;
+    pages = refl;
+    fits = λ m k. refl;
+    owes = λ x. all-left (owed (i .ledger .debts) x) (count (owed (i .ledger .debts)) x);
+    matcher = λ _. refl;
+    holds = λ right x on last. absurd (let z : _≡_ {A = ℕ} 0 1 = omega arith in omega arith);
+    sound = λ right. right;
+  }
     where
       all-left : (b : Bool) (n : ℕ) → b ≡ (b && leb 0 n)
       all-left true n = sym (le-leb 0 n (omega arith))

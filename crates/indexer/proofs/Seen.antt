@@ -20,7 +20,7 @@ pub sought-word : (o : Option Term) (r : Option ℕ) (text : List ℕ) (t : Term
 sought-word o r text t start l q given same held fits short long =
     let sought : Sought o text start l r = subst (λ x. Sought o text start x r) same given in
     subst (λ (x : Option ℕ). Cases x ⊥ (λ w. (s : ℕ) → s < 64 → bit w s ≡ occurs t text (start + s))) (sym (sought t held fits short))
-      (λ s below. bit-is (occurs t (take l (drop start text))) s 64 below ∙ occurs-stretch t text start l s below fits long)
+    (λ s below. bit-is (occurs t (take l (drop start text))) s 64 below ∙ occurs-stretch t text start l s below fits long)
 
 -- the length of a part from the start, as `&mut s[0..l]` has it
 pub part-length : (l : ℕ) (xs : List ℕ) → l ≤ length xs → length (take (l - 0) (drop 0 xs)) ≡ l

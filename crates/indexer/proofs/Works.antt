@@ -53,28 +53,28 @@ module _ (fit fit′ : ℕ → ℕ → Bool) (text : List ℕ) (i j : Ledger) (u
 
   pub settled-right :
       ((t : Term) → standing (i .terms) (u .number .value) ≡ Some t → fit (length (t .bytes)) (t .limit) ≡ true → 64 * u .block < length text →
-        Cases word ⊥ (λ w. (s : ℕ) → s < 64 → bit w s ≡ occurs t text (64 * u .block + s))) →
+      Cases word ⊥ (λ w. (s : ℕ) → s < 64 → bit w s ≡ occurs t text (64 * u .block + s))) →
       Right fit text i → Right fit′ text j
   settled-right seen right = record {
-      fits = λ n t stands. same (length (t .bytes)) (t .limit) ∙ right .fits n t (before n t stands);
-      owing = λ n b on.
-          let was = right .owing n b (still-owed (eqb n (u .number .value) && eqb b (u .block)) (owes (i .debts) n b) (sym (settled .debts n b) ∙ on)) in
-          (ap (λ x. isSome (standing x n)) (settled .terms) ∙ was .0, was .1);
-      marks = λ n s t stands below paid.
-          ⊎-elim
-          (λ (here : (eqb n (u .number .value) && eqb (s / 64) (u .block)) ≡ true).
-            let n-is : n ≡ u .number .value = eqb-true n (u .number .value) (and-parts _ _ here .0) in
-            let b-is : s / 64 ≡ u .block = eqb-true (s / 64) (u .block) (and-parts _ _ here .1) in
-            let was = before n t stands in
-            let stood : standing (i .terms) (u .number .value) ≡ Some t = ap (standing (i .terms)) (sym n-is) ∙ was in
-            settled .marks n s ∙ ap (λ b. cond b (markBy word (s % 64) (marked (i .marks) n s)) (marked (i .marks) n s)) here
-            ∙ word-mark t text (u .block) s word (marked (i .marks) n s) b-is (seen t stood (right .fits n t was) (omega arith)))
-          (λ (there : (eqb n (u .number .value) && eqb (s / 64) (u .block)) ≡ false).
-            let still : owes (i .debts) n (s / 64) ≡ false = sym (settled .debts n (s / 64) ∙ ap (λ b. cond b false (owes (i .debts) n (s / 64))) there) ∙ paid in
-            settled .marks n s ∙ ap (λ b. cond b (markBy word (s % 64) (marked (i .marks) n s)) (marked (i .marks) n s)) there
-            ∙ right .marks n s t (before n t stands) below still)
-          (cases-bool (eqb n (u .number .value) && eqb (s / 64) (u .block)));
-    }
+    fits = λ n t stands. same (length (t .bytes)) (t .limit) ∙ right .fits n t (before n t stands);
+    owing = λ n b on.
+        let was = right .owing n b (still-owed (eqb n (u .number .value) && eqb b (u .block)) (owes (i .debts) n b) (sym (settled .debts n b) ∙ on)) in
+        (ap (λ x. isSome (standing x n)) (settled .terms) ∙ was .0, was .1);
+    marks = λ n s t stands below paid.
+        ⊎-elim
+        (λ (here : (eqb n (u .number .value) && eqb (s / 64) (u .block)) ≡ true).
+        let n-is : n ≡ u .number .value = eqb-true n (u .number .value) (and-parts _ _ here .0) in
+        let b-is : s / 64 ≡ u .block = eqb-true (s / 64) (u .block) (and-parts _ _ here .1) in
+        let was = before n t stands in
+        let stood : standing (i .terms) (u .number .value) ≡ Some t = ap (standing (i .terms)) (sym n-is) ∙ was in
+        settled .marks n s ∙ ap (λ b. cond b (markBy word (s % 64) (marked (i .marks) n s)) (marked (i .marks) n s)) here
+        ∙ word-mark t text (u .block) s word (marked (i .marks) n s) b-is (seen t stood (right .fits n t was) (omega arith)))
+        (λ (there : (eqb n (u .number .value) && eqb (s / 64) (u .block)) ≡ false).
+        let still : owes (i .debts) n (s / 64) ≡ false = sym (settled .debts n (s / 64) ∙ ap (λ b. cond b false (owes (i .debts) n (s / 64))) there) ∙ paid in
+        settled .marks n s ∙ ap (λ b. cond b (markBy word (s % 64) (marked (i .marks) n s)) (marked (i .marks) n s)) there
+        ∙ right .marks n s t (before n t stands) below still)
+        (cases-bool (eqb n (u .number .value) && eqb (s / 64) (u .block)));
+  }
 
 -- an owed unit's term is left in the matcher
 module _ {M : Type 0} (held : M → Option Term) (fit : M → ℕ → ℕ → Bool) (old new : M) (text : List ℕ) (l : Ledger) (u : declared.Unit) (word : Option ℕ) (right : Right (fit old) text l) (on : owed (l .debts) (unitIndex u) ≡ true) where

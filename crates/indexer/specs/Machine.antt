@@ -53,7 +53,7 @@ paging m at = inOrder (cond (ltb at (length (m .text))) None (Some PastText)) (o
 abbrev pub entering : (ℕ → ℕ → Bool) → Machine → ℕ → ℕ → List ℕ → Option Refusal
 entering fit m number k term =
     inOrder (numbering number) (inOrder (malformed (length term) k)
-      (inOrder (cond (isSome (m .stands number)) (Some TermStands) None) (cond (fit (length term) k) None (Some TermUnfit))))
+    (inOrder (cond (isSome (m .stands number)) (Some TermStands) None) (cond (fit (length term) k) None (Some TermUnfit))))
 
 abbrev pub afterPage : Machine → ℕ → Option Refusal → Machine
 afterPage m at (Some e) = m

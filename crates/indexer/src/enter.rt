@@ -3,20 +3,25 @@ ghost use mathlib.Core.Path.{_≡_};
 ghost use Rattle.indexer.specs.Called.{Made, Called};
 ghost use Rattle.indexer.specs.Machine.Call.{page, enter};
 ghost use Rattle.indexer.specs.Machine.Answer.{said};
+use super::index::Indexer;
+use super::shown::shown_term;
 use galleys::galley::Galley;
 use ledger::book::Ledger;
 use matchers::matcher::Matcher;
 use rules::numbers::TermNumber;
 use rules::refusal::Refusal;
-use super::index::Indexer;
-use super::shown::shown_term;
 
 impl<M: Matcher, G: Galley> Indexer<M, G> {
     // An indexer of the galley's text: one page, no term, nothing owed.
     pub fn new(matcher: M, galley: G, job: u32) -> Indexer<M, G>
         ensures made { λ r. ⌜ Made (M·Matcher .fit) (G·Galley .text) matcher galley job r ⌝ }
     {
-        Indexer { matcher, galley, job, ledger: Ledger::new() }
+        Indexer {
+            matcher,
+            galley,
+            job,
+            ledger: Ledger::new(),
+        }
     }
 
     // Opens a page that starts at the place.

@@ -1,13 +1,13 @@
 // Asking for locators.
 ghost use Rattle.indexer.specs.Called.{Located};
+use super::index::Indexer;
+use super::variants::variant_at;
 use galleys::galley::Galley;
 use ledger::page_table::PagePlace;
 use matchers::matcher::Matcher;
 use rules::locator::Locator;
 use rules::numbers::TermNumber;
 use rules::refusal::Refusal;
-use super::index::Indexer;
-use super::variants::variant_at;
 
 impl<M: Matcher, G: Galley> Indexer<M, G> {
     // The first listed locator of the number's term at or after `from`; it is found by the marks, and nothing is searched.
@@ -23,6 +23,11 @@ impl<M: Matcher, G: Galley> Indexer<M, G> {
         };
         let variant = variant_at(&self.galley, &term, start);
         let PagePlace { page, place } = self.ledger.pages.find(start);
-        Ok(Some(Locator { start, page, place, variant }))
+        Ok(Some(Locator {
+            start,
+            page,
+            place,
+            variant,
+        }))
     }
 }

@@ -10,7 +10,12 @@ use matchers::matcher::Matcher;
 use rules::held::HeldTerm;
 
 // The word of the term's occurrences in the block, as the matcher finds them in the present text.
-pub(super) fn look<M: Matcher, G: Galley>(matcher: &mut M, galley: &G, standing: Option<HeldTerm>, block: u8) -> Option<u64>
+pub(super) fn look<M: Matcher, G: Galley>(
+    matcher: &mut M,
+    galley: &G,
+    standing: Option<HeldTerm>,
+    block: u8,
+) -> Option<u64>
     ensures looked { λ r. ⌜ Looked (M·Matcher .held) (M·Matcher .fit) (now (matcher .entry)) (G·Galley .text (now (galley .entry))) (mapped termOf standing) block r (now (matcher .exit)) ⌝ }
 {
     let Some(term) = standing else {
@@ -31,7 +36,12 @@ pub(super) fn look<M: Matcher, G: Galley>(matcher: &mut M, galley: &G, standing:
 }
 
 // What the prepared matcher finds in the stretch of the text from `start` on that is as long as the buffer.
-fn seek<M: Matcher, G: Galley>(matcher: &M, galley: &G, start: usize, stretch: &mut [u8]) -> Option<u64>
+fn seek<M: Matcher, G: Galley>(
+    matcher: &M,
+    galley: &G,
+    start: usize,
+    stretch: &mut [u8],
+) -> Option<u64>
     ensures sought { λ r. ⌜ Sought (M·Matcher .held (now (matcher .entry))) (G·Galley .text (now (galley .entry))) start (length (now (stretch .entry))) r ⌝ }
 {
     let Ok(()) = galley.fetch(start, stretch) else {

@@ -8,7 +8,12 @@ use rules::held::HeldTerm;
 use rules::refusal::Refusal;
 
 // The buffer filled with the term's bytes as the galley shows them, and these held with the limit.
-fn hold_shown<G: Galley>(galley: &G, term: &[u8], limit: usize, shown: &mut [u8]) -> Result<HeldTerm, Refusal>
+fn hold_shown<G: Galley>(
+    galley: &G,
+    term: &[u8],
+    limit: usize,
+    shown: &mut [u8],
+) -> Result<HeldTerm, Refusal>
     requires { ⌜ length (now shown) ≡ length (now term) ⌝ }
     ensures cases { λ r. ⌜ Held (map (G·Galley .shows) (now (term .entry))) limit r ⌝ }
 {
@@ -19,7 +24,11 @@ fn hold_shown<G: Galley>(galley: &G, term: &[u8], limit: usize, shown: &mut [u8]
 }
 
 // The term, each byte as the galley shows it, where there can be such a term.
-pub(super) fn shown_term<G: Galley>(galley: &G, term: &[u8], limit: usize) -> Result<HeldTerm, Refusal>
+pub(super) fn shown_term<G: Galley>(
+    galley: &G,
+    term: &[u8],
+    limit: usize,
+) -> Result<HeldTerm, Refusal>
     ensures cases { λ r. ⌜ Held (map (G·Galley .shows) (now (term .entry))) limit r ⌝ }
 {
     let m = term.len();

@@ -31,5 +31,9 @@ pub(super) fn variant_at<G: Galley>(galley: &G, term: &HeldTerm, start: u16) -> 
 {
     let mut buffer = [0u8; 64];
     let bytes = term.bytes();
-    if stands_at(galley, bytes, start as usize, &mut buffer[0..bytes.len()]) { 0 } else { 1 }
+    if stands_at(galley, bytes, start as usize, &mut buffer[0..bytes.len()]) {
+        0
+    } else {
+        1
+    }
 }

@@ -5,11 +5,11 @@ ghost use Rattle.indexer.specs.Called.{Called};
 ghost use Rattle.indexer.specs.Works.{Did};
 ghost use Rattle.indexer.specs.Machine.Call.{run};
 ghost use Rattle.indexer.specs.Machine.Answer.{did};
+use super::index::Indexer;
+use super::look::look;
 use galleys::galley::Galley;
 use ledger::unit::Unit;
 use matchers::matcher::Matcher;
-use super::index::Indexer;
-use super::look::look;
 
 impl<M: Matcher, G: Galley> Indexer<M, G> {
     // Does the unit: the matcher is prepared for its term, and the marks of its block are what the matcher finds there.

@@ -54,8 +54,8 @@ count-apart f x y on l =
 pub count-tells : (f : ℕ → Bool) (x y : ℕ) → f x ≡ true → f y ≡ true → count f x ≡ count f y → x ≡ y
 count-tells f x y on also same =
     ⊎-elim (λ (e : x ≡ y). e)
-      (⊎-elim (λ (l : x < y). let h = count-apart f x y on l in absurd (omega arith)) (λ (l : y < x). let h = count-apart f y x also l in absurd (omega arith)))
-      (cases-order x y)
+    (⊎-elim (λ (l : x < y). let h = count-apart f x y on l in absurd (omega arith)) (λ (l : y < x). let h = count-apart f y x also l in absurd (omega arith)))
+    (cases-order x y)
 
 -- how many are left of the first x
 pub count-left : (f : ℕ → Bool) (d x : ℕ) → count (left f d) x ≡ count f x - d

@@ -6,5 +6,4 @@ use Rattle.std.proofs.shelf.Ways.{tells}
 use Rattle.rules.specs.Terms.{folded}
 
 pub folded-folded : (b : ℕ) → folded (folded b) ≡ folded b
-unfolding folded
 folded-folded b = grind (arith, tells)

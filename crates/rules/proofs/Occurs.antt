@@ -88,15 +88,18 @@ pub own-occurs : (bytes text : List ℕ) (s : ℕ) → s + length bytes ≤ leng
 unfolding front
 own-occurs bytes text s fits =
     decides-at (occurs own text s) (front own text s (length bytes)) (occurs-within own text s fits)
-      (decides-like (front own text s (length bytes)) same each (all-is (λ i. byteMatches own i (getD text (s + i) 0)) (length bytes)))
+    (decides-like (front own text s (length bytes)) same each (all-is (λ i. byteMatches own i (getD text (s + i) 0)) (length bytes)))
   where
     own : Term
     own = record { bytes = bytes; limit = 0 }
+
     here : (i : ℕ) → i < length bytes → getD (take (length bytes) (drop s text)) i 0 ≡ getD text (s + i) 0
     here i l = getD-take (length bytes) (drop s text) i 0 l ∙ getD-drop s text i 0
+
     same : ((i : ℕ) → i < length bytes → byteMatches own i (getD text (s + i) 0) ≡ true) → take (length bytes) (drop s text) ≡ bytes
     same h = ext-getD 0 (take (length bytes) (drop s text)) bytes (simp (length-take, length-drop) (omega arith)) (λ i below.
         let l : i < length bytes = let b = simp (length-take, length-drop) at below in omega arith in
         here i l ∙ eqb-true (getD text (s + i) 0) (getD bytes i 0) (sym (own-byte i (getD bytes i 0) (getD text (s + i) 0)) ∙ h i l))
+
     each : take (length bytes) (drop s text) ≡ bytes → (i : ℕ) → i < length bytes → byteMatches own i (getD text (s + i) 0) ≡ true
     each e i l = own-byte i (getD bytes i 0) (getD text (s + i) 0) ∙ eq-eqb (getD text (s + i) 0) (getD bytes i 0) (sym (here i l) ∙ ap (λ xs. getD xs i 0) e)

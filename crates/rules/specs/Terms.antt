@@ -7,7 +7,7 @@ use lib.ListN.{length, getD}
 use Rattle.rules.specs.Words.{wordOf, all}
 
 -- 'A' to 'Z' as 'a' to 'z'; tab, line feed and carriage return as a space; every other byte as it is
-unfoldable pub folded : ℕ → ℕ
+abbrev pub folded : ℕ → ℕ
 folded b = cond (leb 65 b && leb b 90) (b + 32) (cond (eqb b 9 || (eqb b 10 || eqb b 13)) 32 b)
 
 -- a term: its bytes, and its limit, the number of its first bytes that match by their fold

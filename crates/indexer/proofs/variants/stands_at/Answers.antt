@@ -21,5 +21,7 @@ returns g c =
     let f = fetched-within text s (c .args .buffer .now) _ _ (c .in-Ok .ensures tt .fetched) in
     let fits : s + length bytes ≤ length text = omega (arith, f .0) in
     let read : c .fetch .last .buffer ≡ take (length bytes) (drop s text) = f .1 ∙ ap (λ l. take l (drop s text)) (omega arith) in
-    record { value = same-from-decides (c .same-bytes .result) (occurs (record { bytes = bytes; limit = 0 }) text s)
-        (decides-like (c .same-bytes .result) (λ e. sym read ∙ e) (λ e. read ∙ e) (c .same-bytes .ensures)) (own-occurs bytes text s fits) }
+    record {
+      value = same-from-decides (c .same-bytes .result) (occurs (record { bytes = bytes; limit = 0 }) text s)
+          (decides-like (c .same-bytes .result) (λ e. sym read ∙ e) (λ e. read ∙ e) (c .same-bytes .ensures)) (own-occurs bytes text s fits);
+    }

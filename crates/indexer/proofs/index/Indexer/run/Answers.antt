@@ -28,11 +28,12 @@ loop-done-again g c =
     let x = unitIndex u in
     let f = c .in-Some .ensures tt .value in
     let first : (y : ℕ) → y < x → owed (j .ledger .debts) y ≡ false =
-        λ y l. ⊎-elim (λ (k : y < 16 * c .loop-done .from). c .loop-done .inv .2 y k) (λ (k : 16 * c .loop-done .from ≤ y). f .before y k l) (cases-lt y (16 * c .loop-done .from)) in
-    (omega arith,
-     ran-within held fit text i j d ran x (f .here) first (f .high),
-     none-before held fit text i j d ran x (f .here) first (c .work .last .self) (16 * u .block) (omega arith) (c .work .ensures),
-     ran-more held fit text i j d ran x (f .here) first (c .work .last .self) (c .work .ensures))
+    λ y l. ⊎-elim (λ (k : y < 16 * c .loop-done .from). c .loop-done .inv .2 y k) (λ (k : 16 * c .loop-done .from ≤ y). f .before y k l) (cases-lt y (16 * c .loop-done .from)) in (
+      omega arith,
+      ran-within held fit text i j d ran x (f .here) first (f .high),
+      none-before held fit text i j d ran x (f .here) first (c .work .last .self) (16 * u .block) (omega arith) (c .work .ensures),
+      ran-more held fit text i j d ran x (f .here) first (c .work .last .self) (c .work .ensures),
+    )
 
 pub returns : need.returns
 returns g c =
@@ -44,11 +45,11 @@ returns g c =
     let d = c .loop-done .done in
     let ran = c .loop-done .inv .3 in
     let all : d ≡ min (c .args .u) (count (owed (i .ledger .debts)) 4096) =
-        elim (c .loop-done-test .came) [
-          else-loop-done-test w ↦ omega (arith, w .loop-done-test .left)
-        | then-loop-done-test·in-rest w ↦
-            let none : (y : ℕ) → y < 4096 → owed (j .ledger .debts) y ≡ false =
-                λ y l. ⊎-elim (λ (k : y < 16 * c .loop-done .from). c .loop-done .inv .2 y k) (λ (k : 16 * c .loop-done .from ≤ y). w .in-rest .ensures tt .value y k l) (cases-lt y (16 * c .loop-done .from)) in
-            omega (arith, ran-all held fit text i j d ran none)
-        ] in
+    elim (c .loop-done-test .came) [
+      | else-loop-done-test w ↦ omega (arith, w .loop-done-test .left)
+      | then-loop-done-test·in-rest w ↦
+          let none : (y : ℕ) → y < 4096 → owed (j .ledger .debts) y ≡ false =
+          λ y l. ⊎-elim (λ (k : y < 16 * c .loop-done .from). c .loop-done .inv .2 y k) (λ (k : 16 * c .loop-done .from ≤ y). w .in-rest .ensures tt .value y k l) (cases-lt y (16 * c .loop-done .from)) in
+          omega (arith, ran-all held fit text i j d ran none)
+    ] in
     record { called = run-called held fit text i j d ran (g .G·Galley .shows) (c .args .u) (c .count .result) all (c .count .ensures .value) }

@@ -27,5 +27,5 @@ returns g c =
       owes = settled-owed (i .ledger) (c .settle .last .self) u (c .look-word .result) settled;
       holds = λ right on. done-holds (g .M·Matcher .held) fit (i .matcher) (c .look-word .last .matcher) text (i .ledger) u (c .look-word .result) right on (mapped termOf (c .term-standing .result)) row looked;
       sound = settled-right (fit (i .matcher)) (fit (c .look-word .last .matcher)) text (i .ledger) (c .settle .last .self) u (c .look-word .result) (looked .fits) settled
-        (λ t stands. looked .word t (row ∙ stands));
+          (λ t stands. looked .word t (row ∙ stands));
     }
