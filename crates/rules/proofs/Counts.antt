@@ -132,3 +132,11 @@ none-passes f x none y below =
     (λ (on : f y ≡ true). let p = count-apart f y x on below in absurd (omega arith))
     (λ (off : f y ≡ false). off)
     (cases-bool (f y))
+
+-- at most all pass
+pub count-most : (f : ℕ → Bool) (x : ℕ) → count f x ≤ x
+unfolding count
+count-most f zero = omega arith
+count-most f (suc x) =
+    let h = count-most f x in
+    elim (f x) as (λ b. count f x + bitOf b ≤ suc x) [ true ↦ omega arith | false ↦ omega arith ]

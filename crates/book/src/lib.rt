@@ -1,0 +1,3 @@
+// A book indexed from start to finish.
+pub mod feeds;
+pub mod whole;
