@@ -103,7 +103,22 @@ module _ {M G : Type 0} (held : M → Option Term) (fit : M → ℕ → ℕ → 
           (let m : length (t .bytes) ≡ length term = ap (λ (u : Term). length (u .bytes)) is ∙ length-map term shows in let q : t .limit ≡ k = ap (λ (u : Term). u .limit) is in cc) right;
     }
 
--- whether a term stands, by the row
-pub some-mapped : {A B : Type 0} (f : A → B) (o : Option A) → isSome (mapped f o) ≡ isSome o
+-- a term as the galley shows it has the same length
+pub shown-form : (shows : ℕ → ℕ) (term : List ℕ) (k : ℕ) (o : Option Refusal) → malformed (length (map shows term)) k ≡ o → malformed (length term) k ≡ o
+shown-form shows term k o h = ap (λ l. malformed l k) (sym (length-map term shows)) ∙ h
+
+-- whether a term stands, by its row
+some-mapped : {A B : Type 0} (f : A → B) (o : Option A) → isSome (mapped f o) ≡ isSome o
 some-mapped f None = refl
 some-mapped f (Some x) = refl
+
+pub row-stands : {A : Type 0} (f : A → Term) (stands : ℕ → Option Term) (value number : ℕ) (row : Option A) (b : Bool) → value ≡ number → mapped f row ≡ stands value → b ≡ isSome row → isSome (stands number) ≡ b
+row-stands f stands value number row b is reads some = ap (λ n. isSome (stands n)) (sym is) ∙ sym (ap isSome reads) ∙ some-mapped f row ∙ sym some
+
+-- the refusal that a `?` passes on
+pub passed-on : (o : Option Refusal) (x y : Refusal) → o ≡ Some x → y ≡ x → o ≡ Some y
+passed-on o x y h e = h ∙ ap Some (sym e)
+
+-- the same entry, by the number and the size that the call was given
+pub entered-at : (i j : Ledger) (t : Term) (value number size n : ℕ) → value ≡ number → size ≡ n → Entered i value t size j → Entered i number t n j
+entered-at i j t value number size n is long entered = subst (λ x. Entered i x t n j) is (subst (λ x. Entered i value t x j) long entered)
