@@ -1,0 +1,10 @@
+.PHONY: run test
+
+# Proves and builds bookindex, then indexes the sample book and prints its index.
+run:
+	rt check bookindex
+	cd crates/bookindex/data && ../../../target/bin/bookindex
+
+# The gate: every proof from nothing, the must-fail edits, the programs and the tests.
+test:
+	bash .ci/run
