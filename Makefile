@@ -5,6 +5,6 @@ run:
 	rt check bookindex
 	cd crates/bookindex/data && ../../../target/bin/bookindex
 
-# The gate: every proof from nothing, the must-fail edits, the programs and the tests.
+# The gate: every proof from nothing, the must-fail edits, and the test programs held to what they must print.
 test:
 	bash .ci/run

@@ -50,29 +50,117 @@ fn told(
     Ok(())
 }
 
-// Enters the first eight terms: short ones, each limit once.
-fn enter_short(rt: &LibcRuntime, book: &mut Book) -> Result<(), AnyError> {
-    told(rt, "enter", 0, book.enter(0, 0, b"a"))?;
-    told(rt, "enter", 1, book.enter(1, 0, b"ab"))?;
-    told(rt, "enter", 2, book.enter(2, 1, b"ab"))?;
-    told(rt, "enter", 3, book.enter(3, 1, b"bB"))?;
-    told(rt, "enter", 4, book.enter(4, 2, b"aba"))?;
-    told(rt, "enter", 5, book.enter(5, 0, b" "))?;
-    told(rt, "enter", 6, book.enter(6, 1, b"\na"))?;
-    told(rt, "enter", 7, book.enter(7, 2, b" \n "))
+// A term of the table: its limit and its bytes.
+#[derive(Clone, Copy)]
+struct Short<'a> {
+    limit: usize,
+    bytes: &'a [u8],
 }
 
-// Enters the last eight: the text's end, terms longer than short texts, terms that never occur.
-fn enter_long(rt: &LibcRuntime, book: &mut Book, end: &[u8]) -> Result<(), AnyError> {
-    told(rt, "enter", 8, book.enter(8, 0, end))?;
-    told(rt, "enter", 9, book.enter(9, 2, end))?;
-    told(rt, "enter", 10, book.enter(10, 0, &[b'a'; 64]))?;
-    told(rt, "enter", 11, book.enter(11, 63, &[b'b'; 64]))?;
-    told(rt, "enter", 12, book.enter(12, 3, b"AbaB"))?;
-    told(rt, "enter", 13, book.enter(13, 0, b"zz"))?;
-    told(rt, "enter", 14, book.enter(14, 1, b"BB"))?;
-    told(rt, "enter", 15, book.enter(15, 4, b"a b a"))?;
-    told(rt, "enter", 16, book.enter(16, 0, b"a"))
+// Enters the terms one after the other, from the number on.
+fn enter_all(
+    rt: &LibcRuntime,
+    book: &mut Book,
+    from: usize,
+    terms: &[Short],
+) -> Result<(), AnyError> {
+    let mut number = from;
+    for term in terms {
+        told(
+            rt,
+            "enter",
+            number,
+            book.enter(number, term.limit, term.bytes),
+        )?;
+        number = number.saturating_add(1);
+    }
+    Ok(())
+}
+
+// Enters sixteen terms and one too many: short ones, the text's end, terms longer than short texts, terms that never occur.
+fn enter_terms(rt: &LibcRuntime, book: &mut Book, end: &[u8]) -> Result<(), AnyError> {
+    enter_all(
+        rt,
+        book,
+        0,
+        &[
+            Short {
+                limit: 0,
+                bytes: b"a",
+            },
+            Short {
+                limit: 0,
+                bytes: b"ab",
+            },
+            Short {
+                limit: 1,
+                bytes: b"ab",
+            },
+            Short {
+                limit: 1,
+                bytes: b"bB",
+            },
+            Short {
+                limit: 2,
+                bytes: b"aba",
+            },
+            Short {
+                limit: 0,
+                bytes: b" ",
+            },
+            Short {
+                limit: 1,
+                bytes: b"\na",
+            },
+            Short {
+                limit: 2,
+                bytes: b" \n ",
+            },
+        ],
+    )?;
+    enter_all(
+        rt,
+        book,
+        8,
+        &[
+            Short {
+                limit: 0,
+                bytes: end,
+            },
+            Short {
+                limit: 2,
+                bytes: end,
+            },
+            Short {
+                limit: 0,
+                bytes: &[b'a'; 64],
+            },
+            Short {
+                limit: 63,
+                bytes: &[b'b'; 64],
+            },
+            Short {
+                limit: 3,
+                bytes: b"AbaB",
+            },
+            Short {
+                limit: 0,
+                bytes: b"zz",
+            },
+            Short {
+                limit: 1,
+                bytes: b"BB",
+            },
+            Short {
+                limit: 4,
+                bytes: b"a b a",
+            },
+            Short {
+                limit: 0,
+                bytes: b"a",
+            },
+        ],
+    )
 }
 
 // One more value into a running sum.
@@ -123,8 +211,7 @@ fn play(rt: &LibcRuntime, n: usize, step: usize) -> Result<(), AnyError> {
     let end = last_three(text.as_slice());
     let mut book = Indexer::new(Comparer::new(), ByteGalley::new(text), 1);
     page_all(rt.alloc(), &mut book)?;
-    enter_short(rt, &mut book)?;
-    enter_long(rt, &mut book, &end)?;
+    enter_terms(rt, &mut book, &end)?;
     let (_, owed) = book.run(0);
     println!(rt, "owed {owed}")?;
     let (done, left) = book.run(step);
@@ -166,49 +253,41 @@ fn sheet(rt: &LibcRuntime, bytes: &[u8]) -> Result<(), AnyError> {
     Ok(())
 }
 
-// Sheets without a fault, and with one of the sheet's own.
+// Sheets without a fault, with one of the sheet's own, and with a term that the indexer refuses.
 fn sheets(rt: &LibcRuntime) -> Result<(), AnyError> {
-    sheet(rt, b"")?;
-    sheet(rt, b"\n\n")?;
-    sheet(rt, b"3 0 cat")?;
-    sheet(rt, b"3 0 cat\n\n015 001 a b\r\n")?;
-    sheet(rt, b"3 0 cat\nb 1 cat")?;
-    sheet(rt, b"3")?;
-    sheet(rt, b"3 ")?;
-    sheet(rt, b"3 0")?;
-    sheet(rt, b"3 0\n4 0 a")?;
-    sheet(rt, b"\n 3 0 cat")?;
-    sheet(rt, b"0003 0 cat")?;
-    sheet(rt, b"3 -1 cat")?;
-    sheet(rt, b"3 0 cat\n4 1x cat")
-}
-
-// Sheets with a term that the indexer refuses.
-fn sheets_refused(rt: &LibcRuntime) -> Result<(), AnyError> {
-    sheet(rt, b"16 0 cat")?;
-    sheet(rt, b"999 0 cat\n3")?;
-    sheet(rt, b"3 0 ")?;
-    sheet(rt, b"1 0 a\n3 0 \n4 0 b")?;
-    sheet(rt, b"2 0 a\n3 3 cat")?;
-    sheet(rt, b"3 0 cat\n3 0 dog")?;
-    sheet(
-        rt,
+    let all: [&[u8]; 21] = [
+        b"",
+        b"\n\n",
+        b"3 0 cat",
+        b"3 0 cat\n\n015 001 a b\r\n",
+        b"3 0 cat\nb 1 cat",
+        b"3",
+        b"3 ",
+        b"3 0",
+        b"3 0\n4 0 a",
+        b"\n 3 0 cat",
+        b"0003 0 cat",
+        b"3 -1 cat",
+        b"3 0 cat\n4 1x cat",
+        b"16 0 cat",
+        b"999 0 cat\n3",
+        b"3 0 ",
+        b"1 0 a\n3 0 \n4 0 b",
+        b"2 0 a\n3 3 cat",
+        b"3 0 cat\n3 0 dog",
         b"3 0 aaaaaaaaaaaaaaaaaaaaaaaaaaaaaaaaaaaaaaaaaaaaaaaaaaaaaaaaaaaaaaaa",
-    )?;
-    sheet(
-        rt,
         b"3 0 aaaaaaaaaaaaaaaaaaaaaaaaaaaaaaaaaaaaaaaaaaaaaaaaaaaaaaaaaaaaaaaaa",
-    )
+    ];
+    for bytes in all {
+        sheet(rt, bytes)?;
+    }
+    Ok(())
 }
 
 fn main(rt: LibcRuntime) -> Result<(), AnyError> {
-    play(&rt, 0, 1)?;
-    play(&rt, 1, 1)?;
-    play(&rt, 63, 3)?;
-    play(&rt, 64, 15)?;
-    play(&rt, 65, 17)?;
-    play(&rt, 16384, 1000)?;
+    for (n, step) in [(0, 1), (1, 1), (63, 3), (64, 15), (65, 17), (16384, 1000)] {
+        play(&rt, n, step)?;
+    }
     page_too_many(&rt)?;
-    sheets(&rt)?;
-    sheets_refused(&rt)
+    sheets(&rt)
 }

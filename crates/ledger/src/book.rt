@@ -75,34 +75,3 @@ impl Ledger {
             })
     }
 }
-
-#[cfg(test)]
-mod tests {
-    use super::*;
-    use rules::refusal::Refusal;
-    use rules::refusal::RefusalDebug;
-    use rules::refusal::RefusalPartialEq;
-    use std::test::*;
-
-    #[test]
-    fn lists_marks_of_units_not_owed() -> Result<(), Fail> {
-        let number = TermNumber::new(3)?;
-        let mut ledger = Ledger::new();
-        ledger.enter(number, HeldTerm::new(b"index", 1)?, 100);
-        check_eq(ledger.debts.count(), 2)?;
-        ledger.settle(Unit { number, block: 1 }, Some(0b1010));
-        check_eq(ledger.debts.count(), 1)?;
-        check_eq(ledger.first_listed(number, 0, 100), Some(65))?;
-        check_eq(ledger.first_listed(number, 66, 100), Some(67))?;
-        check_eq(ledger.first_listed(number, 68, 100), None)
-    }
-
-    #[test]
-    fn finds_the_page_of_a_start() -> Result<(), Fail> {
-        let mut pages = Pages::new();
-        pages.open(60)?;
-        check_eq(pages.open(60), Err(Refusal::PageOrder))?;
-        let found = pages.find(65);
-        check_eq((found.page, found.place), (2, 5))
-    }
-}

@@ -23,14 +23,14 @@ fn lowest(word: u16) -> Option<TermNumber>
 
 impl Debts {
     // No unit is owed.
-    pub fn new() -> Debts
+    pub(super) fn new() -> Debts
         ensures value { λ r. ⌜ ((n b : ℕ) → owes r n b ≡ false) ⌝ }
     {
         Debts { words: [0; 256] }
     }
 
     // The number's units at the blocks from `from` to before `to` are owed, of the 256 blocks.
-    pub fn owe(&mut self, number: TermNumber, from: usize, to: usize)
+    pub(super) fn owe(&mut self, number: TermNumber, from: usize, to: usize)
         ensures after { λ _. ⌜ Owed (now (self .entry)) (number .value) from to (now (self .exit)) ⌝ }
     {
         for b in from..to.min(256) {
@@ -40,7 +40,7 @@ impl Debts {
     }
 
     // The unit is owed no more.
-    pub fn clear(&mut self, unit: Unit)
+    pub(super) fn clear(&mut self, unit: Unit)
         ensures after { λ _. ⌜ Cleared (now (self .entry)) unit (now (self .exit)) ⌝ }
     {
         let block = unit.block as usize;
@@ -49,7 +49,7 @@ impl Debts {
     }
 
     // Whether the unit is owed.
-    pub fn has(&self, unit: Unit) -> bool
+    pub(super) fn has(&self, unit: Unit) -> bool
         ensures value { λ r. ⌜ r ≡ owes (now (self .entry)) (unit .number .value) (unit .block) ⌝ }
     {
         words::has(self.words[unit.block as usize], unit.number)

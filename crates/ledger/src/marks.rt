@@ -15,14 +15,14 @@ pub struct Marks {
 
 impl Marks {
     // No term is marked.
-    pub fn new() -> Marks
+    pub(super) fn new() -> Marks
         ensures value { λ r. ⌜ ((n s : ℕ) → marked r n s ≡ false) ⌝ }
     {
         Marks { words: [0; 16384] }
     }
 
     // The marks of the unit's term at the unit's block are the bits of the word.
-    pub fn store(&mut self, unit: Unit, word: u64)
+    pub(super) fn store(&mut self, unit: Unit, word: u64)
         ensures after { λ _. ⌜ Stored (now (self .entry)) unit word (now (self .exit)) ⌝ }
     {
         for s in 0..64 {
@@ -33,7 +33,7 @@ impl Marks {
     }
 
     // Whether the number's term is marked at the start.
-    pub fn has(&self, number: TermNumber, start: usize) -> bool
+    pub(super) fn has(&self, number: TermNumber, start: usize) -> bool
         ensures value { λ r. ⌜ r ≡ marked (now (self .entry)) (number .value) start ⌝ }
     {
         if start >= 16384 {

@@ -11,7 +11,7 @@ use rules::refusal::Refusal;
 
 impl Pages {
     // The first page is open.
-    pub fn new() -> Pages
+    pub(super) fn new() -> Pages
         ensures value { λ r. ⌜ pageStarts r ≡ 0 ∷ [] ⌝ }
     {
         Pages {

@@ -36,7 +36,7 @@ impl Table {
 
 impl Terms {
     // No term stands.
-    pub fn new() -> Terms
+    pub(super) fn new() -> Terms
         ensures value { λ r. ⌜ ((n : ℕ) → standing r n ≡ None) ⌝ }
     {
         Terms {
@@ -54,7 +54,7 @@ impl Terms {
     }
 
     // The term stands under the number.
-    pub fn enter(&mut self, number: TermNumber, term: HeldTerm)
+    pub(super) fn enter(&mut self, number: TermNumber, term: HeldTerm)
         ensures after { λ _. ⌜ Stood (now (self .entry)) (number .value) (termOf term) (now (self .exit)) ⌝ }
     {
         self.table.enter(number, term);

@@ -7,5 +7,3 @@ mod fields;
 mod line;
 pub mod reader;
 pub mod reads;
-#[cfg(test)]
-mod tests;

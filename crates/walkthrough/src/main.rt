@@ -6,7 +6,7 @@ use indexer::index::Indexer;
 use matchers::comparer::Comparer;
 use matchers::comparer::ComparerMatcher;
 use matchers::matcher::Matcher;
-use rules::locator::Locator;
+use rules::locator::LocatorDebug;
 use rules::refusal::Refusal;
 use std::error::AnyError;
 use term_sheet::enters::enter_sheet;
@@ -35,24 +35,13 @@ fn run(rt: &LibcRuntime, book: &mut Book, units: usize) -> Result<(), AnyError> 
 
 // Prints the first locator of the term at or after a place.
 fn locate(rt: &LibcRuntime, book: &Book, number: usize, from: usize) -> Result<(), AnyError> {
+    print!(rt, "locator {number} from {from}: ")?;
     match book.locator(number, from) {
-        Ok(
-            Some(
-                Locator {
-                    start,
-                    page,
-                    place,
-                    variant,
-                },
-            ),
-        ) => println!(
-            rt,
-            "locator {number} from {from}: start {start} page {page} place {place} variant {variant}"
-        )?,
-        Ok(None) => println!(rt, "locator {number} from {from}: none")?,
+        Ok(Some(locator)) => println!(rt, "{locator:?}")?,
+        Ok(None) => println!(rt, "none")?,
         Err(refusal) => {
             let refused = refusal.number();
-            println!(rt, "locator {number} from {from}: refused {refused}")?;
+            println!(rt, "refused {refused}")?;
         }
     }
     Ok(())
@@ -96,24 +85,64 @@ fn try_matcher(rt: &LibcRuntime, matcher: &mut Comparer) -> Result<(), AnyError>
     Ok(())
 }
 
+// A term to enter.
+#[derive(Clone, Copy)]
+struct Wanted<'a> {
+    action: &'a str,
+    number: usize,
+    limit: usize,
+    term: &'a [u8],
+}
+
 // Pages and terms, accepted and refused.
 fn set_up(rt: &LibcRuntime, book: &mut Book) -> Result<(), AnyError> {
     told(rt, "page at 49", book.page(49))?;
     told(rt, "page at 49 again", book.page(49))?;
     told(rt, "page at 116", book.page(116))?;
-    told(
-        rt,
-        "enter 3: 'reason' with limit 1",
-        book.enter(3, 1, b"reason"),
-    )?;
-    told(rt, "enter 3 once more", book.enter(3, 0, b"rule"))?;
-    told(rt, "enter 16", book.enter(16, 0, b"rule"))?;
-    told(rt, "enter 4: an empty term", book.enter(4, 0, b""))?;
-    told(
-        rt,
-        "enter 4: 'rule' with limit 4",
-        book.enter(4, 4, b"rule"),
-    )?;
+    let terms = [
+        Wanted {
+            action: "enter 3: 'reason' with limit 1",
+            number: 3,
+            limit: 1,
+            term: b"reason",
+        },
+        Wanted {
+            action: "enter 3 once more",
+            number: 3,
+            limit: 0,
+            term: b"rule",
+        },
+        Wanted {
+            action: "enter 16",
+            number: 16,
+            limit: 0,
+            term: b"rule",
+        },
+        Wanted {
+            action: "enter 4: an empty term",
+            number: 4,
+            limit: 0,
+            term: b"",
+        },
+        Wanted {
+            action: "enter 4: 'rule' with limit 4",
+            number: 4,
+            limit: 4,
+            term: b"rule",
+        },
+    ];
+    for wanted in terms {
+        told(
+            rt,
+            wanted.action,
+            book.enter(wanted.number, wanted.limit, wanted.term),
+        )?;
+    }
+    Ok(())
+}
+
+// A sheet of three terms, of which the last is refused.
+fn read_sheet(rt: &LibcRuntime, book: &mut Book) -> Result<(), AnyError> {
     match enter_sheet(book, b"7 0 rule\n\n8 1 the\n8 0 law\n") {
         Ok(()) => println!(rt, "sheet: accepted")?,
         Err(fault) => println!(rt, "sheet: {fault}")?,
@@ -126,16 +155,14 @@ fn work(rt: &LibcRuntime, book: &mut Book) -> Result<(), AnyError> {
     locate(rt, book, 3, 0)?;
     run(rt, book, 0)?;
     run(rt, book, 4)?;
-    locate(rt, book, 3, 0)?;
-    locate(rt, book, 3, 1)?;
-    locate(rt, book, 7, 36)?;
+    for (number, from) in [(3, 0), (3, 1), (7, 36)] {
+        locate(rt, book, number, from)?;
+    }
     run(rt, book, 100)?;
-    locate(rt, book, 3, 58)?;
-    locate(rt, book, 3, 96)?;
-    locate(rt, book, 7, 0)?;
-    locate(rt, book, 8, 0)?;
-    locate(rt, book, 9, 0)?;
-    locate(rt, book, 16, 0)
+    for (number, from) in [(3, 58), (3, 96), (7, 0), (8, 0), (9, 0), (16, 0)] {
+        locate(rt, book, number, from)?;
+    }
+    Ok(())
 }
 
 fn main(rt: LibcRuntime) -> Result<(), AnyError> {
@@ -147,5 +174,6 @@ fn main(rt: LibcRuntime) -> Result<(), AnyError> {
     try_matcher(&rt, &mut matcher)?;
     let mut book = Indexer::new(matcher, galley, 7);
     set_up(&rt, &mut book)?;
+    read_sheet(&rt, &mut book)?;
     work(&rt, &mut book)
 }
