@@ -4,19 +4,7 @@
 #include <stdio.h>
 #include <string.h>
 
-static int fold(int b)
-{
-    if (b >= 'A' && b <= 'Z')
-        return b - 'A' + 'a';
-    if (b == '\t' || b == '\n' || b == '\r')
-        return ' ';
-    return b;
-}
-
-static int matches(int i, int k, int p, int b)
-{
-    return b == p || (i < k && fold(b) == fold(p));
-}
+#include "matches.h"
 
 static uint64_t plain(const unsigned char *term, int m, int k, const unsigned char *stretch, int l)
 {
