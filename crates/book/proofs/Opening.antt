@@ -2,7 +2,7 @@
 use mathlib.Core.Path.{_≡_, refl, sym, ap, _∙_, subst, fun-ext}
 use mathlib.Core.Bool.{Bool, true, false, cond}
 use mathlib.Core.List.{List, [], _∷_, _++_}
-use Prim.Native.Nat.{ℕ, zero, suc, _+_, _-_, _^_, _≤_, _<_, min}
+use Prim.Native.Nat.{ℕ, zero, suc, _+_, _-_, _%_, _^_, _≤_, _<_, min}
 use native.Mathlib.Omega.{arith}
 use lib.Dec.{eqb}
 use lib.ListN.{length, getD, drop}
@@ -73,15 +73,21 @@ feeds-all text xs i h = at-drop-all (λ bs. xs ++ behindFeeds i bs) text i h ∙
 
 -- pages, entries and a run to the end
 module _ {M G : Type 0} (held : M → Option Term) (fit : M → ℕ → ℕ → Bool) (text : G → List ℕ) (shows : ℕ → ℕ) (i j k l : Indexer M G) (starts sheet : List ℕ) (u : ℕ) (a : Answer) where
-  pub indexed : 4096 ≤ u → Opened fit text shows i starts j → Entered fit text shows j (sheetReading sheet) (Ok tt) k → Called held fit text shows k (run u) a l → Indexed fit text shows i starts sheet (Ok tt) l
+  pub indexed : 4096 ≤ u → Opened fit text shows i starts j → Entered fit text shows j (sheetReading sheet) (Ok tt) k → Called held fit text shows k (run u) a l → Indexed held fit text shows i starts sheet (Ok tt) l
   indexed enough pages entered ran =
       let before : enteredAll (fit (j .matcher)) shows (view text j) (sheetReading sheet) ≡ enteredAll (fit (i .matcher)) shows (opened (fit (i .matcher)) shows (view text i) starts) (sheetReading sheet) =
       ap (λ m. enteredAll (fit m) shows (view text j) (sheetReading sheet)) (pages .matcher) ∙ ap (λ m. enteredAll (fit (i .matcher)) shows m (sheetReading sheet)) (pages .follows) in
       let all : view text l ≡ finished (view text k) = ran .follows ∙ ap (λ n. afterUnits (view text k) n) (run-all (view text k) u enough) in
+      let last : enteredAll (fit (i .matcher)) shows (opened (fit (i .matcher)) shows (view text i) starts) (sheetReading sheet) ≡ view text k = sym (entered .follows ∙ before) in
+      let same : k .matcher ≡ i .matcher = entered .matcher ∙ pages .matcher in
       record {
         answers = entered .answers ∙ ap (λ m. firstFault (fit m) shows (view text j) (sheetReading sheet)) (pages .matcher) ∙ ap (λ m. firstFault (fit (i .matcher)) shows m (sheetReading sheet)) (pages .follows);
         follows = all ∙ ap finished (entered .follows ∙ before);
         paid = λ _. ap owing all ∙ finished-owes (view text k);
+        fits = λ n m. ran .fits n m ∙ ap (λ x. fit x n m) same;
+        fault = λ e. absurd (let z : _≡_ {A = ℕ} 0 1 = cc in omega arith);
+        idle = λ none. ran .matcher (run-all (view text k) u enough ∙ sym (ap owing last) ∙ none) ∙ same;
+        holds = λ _ right x owes at. ran .holds (entered .sound (pages .sound right)) x (sym (ap (λ m. m .owed x) last) ∙ owes) (sym (ap (λ m. count (m .owed) x + 1) last) ∙ at ∙ ap owing last ∙ sym (run-all (view text k) u enough)) ∙ sym (ap (λ m. m .stands (x % 16)) last);
         galley = ran .galley ∙ entered .galley ∙ pages .galley;
         job = ran .job ∙ entered .job ∙ pages .job;
         sound = λ right. ran .sound (entered .sound (pages .sound right));

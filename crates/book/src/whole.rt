@@ -21,7 +21,7 @@ pub fn index_book<M: Matcher, G: Galley>(
     starts: &[usize],
     sheet: &[u8],
 ) -> Result<(), Fault>
-    ensures indexed { λ r. ⌜ Indexed (M·Matcher .fit) (G·Galley .text) (G·Galley .shows) (now (indexer .entry)) (now (starts .entry)) (now (sheet .entry)) r (now (indexer .exit)) ⌝ }
+    ensures indexed { λ r. ⌜ Indexed (M·Matcher .held) (M·Matcher .fit) (G·Galley .text) (G·Galley .shows) (now (indexer .entry)) (now (starts .entry)) (now (sheet .entry)) r (now (indexer .exit)) ⌝ }
 {
     open_pages(indexer, starts);
     enter_sheet(indexer, sheet)?;
