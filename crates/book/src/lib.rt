@@ -1,3 +1,5 @@
 // A book indexed from start to finish.
+#![tactic(auto)]
+
 pub mod feeds;
 pub mod whole;

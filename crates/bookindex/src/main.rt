@@ -1,4 +1,6 @@
 // Indexes the book in the current folder: galley.txt, with the terms of terms.txt.
+#![tactic(auto)]
+
 use anyhow::anyhow;
 use book::feeds::page_starts;
 use book::whole::index_book;

@@ -1,4 +1,6 @@
 // Plays the edges: galleys of telling lengths, all sixteen terms, too many pages, sheets with every fault. What it prints is held to what the plain search in reference/ finds.
+#![tactic(auto)]
+
 use galleys::byte::ByteGalley;
 use indexer::index::Indexer;
 use matchers::comparer::Comparer;

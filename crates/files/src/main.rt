@@ -1,4 +1,6 @@
 // Writes index files record by record into buffers of every length, and prints what was refused and what stands in the buffers. What it prints is held to a plain C encoder in reference/.
+#![tactic(auto)]
+
 ghost use Rattle.std.specs.Prelude.{◌+◌, ◌≤◌};
 
 use index_file::record::{Head, Term};

@@ -1,4 +1,6 @@
 // The ways in which a text is held.
+#![tactic(auto)]
+
 pub mod byte;
 pub mod byte_galley;
 pub mod galley;

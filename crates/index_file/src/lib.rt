@@ -1,4 +1,6 @@
 // The index file, written record by record.
+#![tactic(auto)]
+
 mod encoding;
 pub mod kind;
 pub mod law;

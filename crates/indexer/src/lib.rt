@@ -1,4 +1,6 @@
 // An index of where terms occur in a paged text, kept true unit by unit.
+#![tactic(auto)]
+
 pub mod enter;
 pub mod index;
 pub mod locate;

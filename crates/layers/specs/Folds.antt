@@ -1,13 +1,12 @@
 -- A text seen through its fold, by what is below alone. Assumes nothing.
-use Rattle.std.specs.Prelude.{◌≡◌, ℕ, ◌+◌, ◌<◌, ◌≤◌, cond, List, map, length, Some, None, Result, nat_lt, slice_index, refl}
+use Rattle.std.specs.Prelude.{◌≡◌, ℕ, ◌<◌, cond, List, length, Some, None, Result, nat_lt, slice_index}
 use Rattle.std.proofs.Common.{sym, ap, ◌∙◌, arith}
-use Rattle.std.proofs.lemmas.List.{get_or-map, take-map, drop-map, map-set, length-map}
+use Rattle.std.proofs.lemmas.List.{get_or-map, map-set, length-map}
 use Rattle.rules.specs.declared.refusal.Refusal.TheVariants.{PastText}
 use Rattle.rules.specs.Refusals.{answer_of}
 use Rattle.rules.specs.declared.refusal.Refusal.{Refusal}
 use Rattle.rules.specs.Terms.{folded}
-use Rattle.rules.proofs.Folds.{folded-folded}
-use Rattle.galleys.specs.Galleys.{Showing, Text, Fetched, Put}
+use Rattle.galleys.specs.Galleys.{Showing, Text, Put}
 use Rattle.layers.specs.Folded.{folded_text, folded_shown}
 
 pub folded-showing : (shows : ℕ → ℕ) → Showing shows → Showing (folded_shown shows)

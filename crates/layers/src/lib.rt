@@ -1,4 +1,6 @@
 // Layers that go over any galley, and over one another.
+#![tactic(auto)]
+
 pub mod folded;
 pub mod folded_galley;
 pub mod paste;

@@ -5,7 +5,7 @@ use Rattle.rules.specs.Terms.{Term}
 use Rattle.rules.specs.Words.{bit}
 use Rattle.ledger.specs.declared.book.Ledger.{Ledger}
 use Rattle.ledger.specs.declared.unit.Unit.{Unit}
-use Rattle.ledger.specs.Terms.{standing, Stood}
+use Rattle.ledger.specs.Terms.{standing, Stood, Stands}
 use Rattle.ledger.specs.Pages.{page_starts}
 use Rattle.ledger.specs.Debts.{owes, Cleared}
 use Rattle.ledger.specs.Marks.{marked}
@@ -19,14 +19,14 @@ pub record Blank (l : Ledger) : Type 0 where
 
 -- the term stands under the number, and its units in a text of size bytes are owed, of the 256 blocks
 pub record Entered (i : Ledger) (number : ℕ) (term : Term) (size : ℕ) (j : Ledger) : Type 0 where
-  pub terms : Stood i.terms number (Some term) j.terms
+  pub terms : Stood i.terms number term j.terms
   pub pages : j.pages ≡ i.pages
   pub debts : (n b : ℕ) → owes j.debts n b ≡ cond (n == number && (nat_lt (64 * b) size && nat_lt b 256)) true (owes i.debts n b)
   pub marks : j.marks ≡ i.marks
 
 -- no term stands under the number, and none of its units is owed, of the 256 blocks
 pub record Withdrawn (i : Ledger) (number : ℕ) (j : Ledger) : Type 0 where
-  pub terms : Stood i.terms number None j.terms
+  pub terms : Stands i.terms number None j.terms
   pub pages : j.pages ≡ i.pages
   pub debts : (n b : ℕ) → owes j.debts n b ≡ cond (n == number && nat_lt b 256) false (owes i.debts n b)
   pub marks : j.marks ≡ i.marks

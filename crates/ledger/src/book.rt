@@ -25,7 +25,7 @@ fn touch_one(debts: &mut Debts, terms: &Terms, n: usize, at: u16, l: u8)
     };
     let first = (at as usize + 1).saturating_sub(term.bytes().len());
     let last = (at as usize + l as usize).saturating_sub(1);
-    debts.set(number, first / 64, last / 64 + 1, true);
+    debts.owe(number, first / 64, last / 64 + 1);
 }
 
 // The same for every number.
@@ -63,8 +63,8 @@ impl Ledger {
     pub fn enter(&mut self, number: TermNumber, term: HeldTerm, n: usize)
         ensures after { Entered self.old number.value (term_of term) n self.new }
     {
-        self.terms.set(number, Some(term));
-        self.debts.set(number, 0, n.div_ceil(64), true);
+        self.terms.enter(number, term);
+        self.debts.owe(number, 0, n.div_ceil(64));
     }
 
     // No term stands under the number, and none of its units is owed.

@@ -1,7 +1,7 @@
 // The units that are owed.
 ghost use Rattle.std.specs.Prelude.{◌≡◌, ℕ, false};
 ghost use Rattle.rules.specs.Words.{count};
-ghost use Rattle.ledger.specs.Debts.{owes, owed, Owed, Cleared, Lowest, FirstOwed};
+ghost use Rattle.ledger.specs.Debts.{owes, owed, Owed, Turned, Cleared, Lowest, FirstOwed};
 
 use super::unit::Unit;
 use super::words;
@@ -28,9 +28,16 @@ impl Debts {
         Debts { words: [0; 256] }
     }
 
-    // The number's units at the blocks from `from` to before `to`, of the 256 blocks, are owed or not, as `on` says.
+    // The number's units at the blocks from `from` to before `to` are owed, of the 256 blocks.
+    pub(super) fn owe(&mut self, number: TermNumber, from: usize, to: usize)
+        ensures after { Owed self.old number.value from to self.new }
+    {
+        self.set(number, from, to, true);
+    }
+
+    // The same units are owed or not, as `on` says.
     pub(super) fn set(&mut self, number: TermNumber, from: usize, to: usize, on: bool)
-        ensures after { Owed self.old number.value from to on self.new }
+        ensures after { Turned self.old number.value from to on self.new }
     {
         for b in from..to.min(256) {
             let word = self.words[b];

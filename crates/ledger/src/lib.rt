@@ -1,4 +1,6 @@
 // What an indexer of a book knows besides its text and its matcher: terms, pages, owed units and marks.
+#![tactic(auto)]
+
 pub mod book;
 pub mod debts;
 pub mod marks;

@@ -2,7 +2,7 @@
 ghost use Rattle.std.specs.Prelude.{◌≡◌, ℕ, length, if◌then◌else◌, None, nat_eq};
 ghost use Rattle.std.specs.Option.{option_map};
 ghost use Rattle.rules.specs.Held.{term_of};
-ghost use Rattle.ledger.specs.Terms.{row_term, term_at, standing, Stood};
+ghost use Rattle.ledger.specs.Terms.{row_term, term_at, standing, Stood, Stands};
 
 use super::row::{Row, Table, Terms};
 use rules::held::HeldTerm;
@@ -47,9 +47,16 @@ impl Terms {
         self.table.rows[number.get()].term
     }
 
+    // The term stands under the number.
+    pub(super) fn enter(&mut self, number: TermNumber, term: HeldTerm)
+        ensures after { Stood self.old number.value (term_of term) self.new }
+    {
+        self.set(number, Some(term));
+    }
+
     // The term stands under the number, or none does.
     pub(super) fn set(&mut self, number: TermNumber, term: Option<HeldTerm>)
-        ensures after { Stood self.old number.value (option_map term_of term) self.new }
+        ensures after { Stands self.old number.value (option_map term_of term) self.new }
     {
         self.table.set(number, term);
     }

@@ -1,12 +1,12 @@
 -- The forward rule, once for every view of a row of places as a word, and what a marked start means. Assumes nothing.
-use Rattle.std.proofs.Common.{◌≡◌, ℕ, zero, suc, ◌+◌, ◌-◌, ◌*◌, ◌/◌, ◌%◌, ◌^◌, ◌<◌, ◌≤◌, Bool, true, false, not, ◌&&◌, ◌||◌, eqb, ltb, leb, ◌≢◌, ◌⊎◌, List, [], ◌∷◌, length, get_or, Decides, sym, refl, ap, ◌∙◌, subst, inl, inr, ⊎_elim, add-one, arith}
+use Rattle.std.proofs.Common.{◌≡◌, ℕ, zero, suc, ◌+◌, ◌-◌, ◌*◌, ◌/◌, ◌%◌, ◌^◌, ◌<◌, ◌≤◌, Bool, true, false, not, ◌&&◌, ◌||◌, eqb, ltb, leb, List, length, get_or, Decides, sym, refl, ap, ◌∙◌, ⊎_elim, arith}
 use mathlib.Core.Bool.{and-true, and-false, and_comm}
 use lib.Bits.{bit_and, bit_or}
-use Rattle.std.proofs.lemmas.Bool.Decides.{nat_tests, Decides-and, same_from_decides}
-use Rattle.std.proofs.lemmas.Bool.{lt-ltb, le-ltb, le-leb, leb-true, lt-leb, ne_eqb, cases_lt, cases_Bool, and_parts, and_from}
+use Rattle.std.proofs.lemmas.Bool.Decides.{nat_tests, Decides-and}
+use Rattle.std.proofs.lemmas.Bool.{lt-ltb, le-ltb, le-leb, leb-true, lt-leb, ne_eqb, cases_lt, cases_Bool}
 use Rattle.rules.specs.Words.{bit_of, word_of, all}
 use Rattle.rules.specs.Terms.{Term, byte_matches, front, occurs}
-use Rattle.rules.proofs.Words.{word-or, word_and, word_shl, word_same, word-one, word_ones, word_none, word_test, all-is, all_same}
+use Rattle.rules.proofs.Words.{word-or, word_and, word_shl, word_same, word-one, word_test, all-is, all_same}
 use Rattle.matchers.specs.Places.{hits, state_after}
 
 -- the first r places match the text's bytes from s on

@@ -1,12 +1,10 @@
 -- A word that is filled start by start. Assumes nothing.
-use Rattle.std.proofs.Common.{◌≡◌, ℕ, ◌+◌, ◌*◌, ◌%◌, ◌^◌, ◌<◌, ◌≤◌, Bool, true, false, cond, ◌&&◌, ◌||◌, eqb, ltb, leb, List, length, sym, refl, ap, ◌∙◌, ⊎_elim, arith}
+use Rattle.std.proofs.Common.{◌≡◌, ℕ, ◌+◌, ◌*◌, ◌%◌, ◌^◌, ◌<◌, ◌≤◌, Bool, true, false, ◌&&◌, ◌||◌, eqb, ltb, sym, ap, ◌∙◌, ⊎_elim, arith}
 use lib.Bits.{bit_or}
-use Rattle.std.proofs.lemmas.Bool.{cases_Bool, ltb-false, le-ltb, and_left, cases_eq, eq-eqb, ne_eqb}
+use Rattle.std.proofs.lemmas.Bool.{cases_Bool, ltb-false, le-ltb, and_left, cases_eq}
 use Rattle.std.proofs.lemmas.Bool.Decides.{nat_tests}
-use Rattle.rules.specs.Terms.{Term, occurs}
 use Rattle.rules.specs.Words.{word_of}
 use Rattle.rules.proofs.Words.{word_none, word_same, word_set}
-use Rattle.rules.proofs.Occurs.{occurs-past}
 
 -- the word of the tests that pass before n
 abbrev pub marked_below : (ℕ → Bool) → ℕ → ℕ

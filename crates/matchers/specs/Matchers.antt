@@ -36,6 +36,7 @@ abbrev pub of_stretch : {A : Type 0} → (Term → List ℕ → A) → Option Te
 of_stretch f None stretch = Err NoTermHeld
 of_stretch f (Some t) stretch = cond (nat_le (length stretch) 127) (Ok (f t stretch)) (Err StretchTooLong)
 
--- the answer of a scan: the word of the held term in the stretch
+-- the answer of a scan: refused where no term is held, then where the stretch is over 127 bytes; else the word of the term in the stretch
 abbrev pub scanning : Option Term → List ℕ → Result ℕ Refusal
-scanning o stretch = of_stretch scanned o stretch
+scanning None stretch = Err NoTermHeld
+scanning (Some t) stretch = cond (nat_le (length stretch) 127) (Ok (scanned t stretch)) (Err StretchTooLong)

@@ -1,8 +1,8 @@
 -- What the bits of a matcher's words mean: places of the term. Assumes nothing.
-use Rattle.std.specs.Prelude.{◌≡◌, ℕ, zero, suc, ◌+◌, ◌-◌, ◌*◌, ◌%◌, ◌^◌, ◌<◌, ◌≤◌, Bool, true, false, not, ◌&&◌, List, [], length, Some, None, Option, bit_and, bit_or, nat_le, nat_lt, slice_index}
+use Rattle.std.specs.Prelude.{◌≡◌, ℕ, zero, suc, ◌-◌, ◌*◌, ◌%◌, ◌^◌, ◌<◌, ◌≤◌, Bool, not, ◌&&◌, List, [], length, Some, None, Option, bit_and, bit_or, nat_le, nat_lt, slice_index}
 use Rattle.rules.specs.declared.held.HeldTerm.{HeldTerm}
 use Rattle.rules.specs.Held.{term_of}
-use Rattle.rules.specs.Words.{word_of, all}
+use Rattle.rules.specs.Words.{word_of}
 use Rattle.rules.specs.Terms.{Term, byte_matches}
 
 -- the byte b matches place i of the term, of which there are m

@@ -1,12 +1,12 @@
 -- The laws of words that are rows of tests, over the width. Assumes nothing.
-use Rattle.std.proofs.Common.{◌≡◌, ℕ, zero, suc, ◌+◌, ◌-◌, ◌*◌, ◌/◌, ◌%◌, ◌^◌, ◌<◌, ◌≤◌, Bool, true, false, cond, not, ◌&&◌, ◌||◌, eqb, ltb, leb, ◌≢◌, ◌⊎◌, Decides, sym, refl, ap, ◌∙◌, subst, inl, inr, ⊎_elim, add-zero, add-suc, mod-eq_of_lt, mul_assoc, mul_comm, add-mul, suc-add, one-mul, pow-suc, zero-add, zero-mul, arith, pow_pos, pow-add}
+use Rattle.std.proofs.Common.{◌≡◌, ℕ, zero, suc, ◌+◌, ◌-◌, ◌*◌, ◌/◌, ◌%◌, ◌^◌, ◌<◌, ◌≤◌, Bool, true, false, not, ◌&&◌, ◌||◌, eqb, ltb, leb, Decides, sym, refl, ap, ◌∙◌, subst, ⊎_elim, mod-eq_of_lt, add-mul, suc-add, one-mul, zero-add, zero-mul, arith, pow-add}
 use mathlib.Core.Bool.{and_comm}
 use native.Mathlib.Nat.{two-pow-succ}
-use lib.Bits.{bit_and, bit_or, bit_xor, and_block, or_block, and_mask}
+use lib.Bits.{bit_and, bit_or, and_block, or_block, and_mask}
 use lib.Pow.{high, low, mod-pow-add}
 use Rattle.std.proofs.lemmas.Bool.Decides.{nat_tests, Decides-below_and}
-use Rattle.std.proofs.lemmas.Bool.{ltb-true, ltb-false, lt-ltb, le-ltb, le-leb, lt-leb, eq-eqb, ne_eqb, cases_lt, cases_eq}
-use Rattle.std.proofs.lemmas.Nat.{one_shl, pow_below}
+use Rattle.std.proofs.lemmas.Bool.{le-leb, eq-eqb, ne_eqb, cases_lt}
+use Rattle.std.proofs.lemmas.Nat.{one_shl}
 use Rattle.rules.specs.Words.{bit_of, word_of, bit, all}
 
 -- a word is below its width's power

@@ -1,6 +1,5 @@
 -- The term or the term number that a value of the code holds. Assumes nothing.
-use Rattle.std.specs.Prelude.{◌≡◌, ℕ, List, length, take, Some, None, Ok, Err, Option, Result}
-use Rattle.std.specs.Option.{option_map}
+use Rattle.std.specs.Prelude.{◌≡◌, ℕ, List, length, take, Some, None, Ok, Err, Result}
 use Rattle.rules.specs.declared.refusal.Refusal.{Refusal}
 use Rattle.rules.specs.declared.held.HeldTerm.{HeldTerm}
 use Rattle.rules.specs.declared.numbers.TermNumber.{TermNumber}

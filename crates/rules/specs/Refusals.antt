@@ -1,5 +1,5 @@
 -- The numbers of the refusals, and answers that carry one. Assumes nothing.
-use Rattle.std.specs.Prelude.{ℕ, ◌<◌, ◌≤◌, Bool, true, false, cond, ◌&&◌, Some, None, Ok, Err, Option, Result, nat_le, nat_lt}
+use Rattle.std.specs.Prelude.{ℕ, cond, ◌&&◌, Some, None, Ok, Err, Option, Result, nat_le, nat_lt}
 use Rattle.rules.specs.declared.refusal.Refusal.{Refusal}
 use Rattle.rules.specs.declared.refusal.Refusal.TheVariants.{NumberTooHigh, TermLength, LimitTooHigh, TermStands, NoTermStands, TermUnfit, PastText, CorrectionLength, TrialOpen, NoSuchTrial, PageOrder, PagesFull, StretchTooLong, NoTermHeld, BufferTooSmall, NotANumber, LineTooShort}
 

@@ -1,5 +1,5 @@
 -- What a term is, when a byte matches it, and where it occurs. Assumes nothing.
-use Rattle.std.specs.Prelude.{ℕ, ◌+◌, Bool, true, false, cond, ◌&&◌, ◌||◌, List, length, ◌==◌, nat_le, nat_lt, slice_index}
+use Rattle.std.specs.Prelude.{ℕ, ◌+◌, Bool, cond, ◌&&◌, ◌||◌, List, length, ◌==◌, nat_le, nat_lt, slice_index}
 use Rattle.rules.specs.Words.{word_of, all}
 
 -- 'A' to 'Z' as 'a' to 'z'; tab, line feed and carriage return as a space; every other byte as it is

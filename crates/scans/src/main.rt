@@ -1,4 +1,6 @@
 // Runs every matcher on a table of terms and stretches, and asks for table words and states. What it prints is held to what the plain search in reference/ finds.
+#![tactic(auto)]
+
 use matchers::comparer::Comparer;
 use matchers::matcher::Matcher;
 use shifts::shift_and::ShiftAnd;

@@ -1,14 +1,14 @@
 -- A forward matcher reads on: its state, where an occurrence ends, and the starts it marks. Assumes nothing.
-use Rattle.std.proofs.Common.{◌≡◌, ℕ, zero, suc, ◌+◌, ◌-◌, ◌*◌, ◌/◌, ◌%◌, ◌^◌, ◌<◌, ◌≤◌, min, Bool, true, false, cond, not, ◌&&◌, ◌||◌, eqb, ltb, leb, ◌⊎◌, List, length, get_or, sym, refl, ap, ◌∙◌, subst, inl, inr, ⊎_elim, add-one, arith, lit<}
+use Rattle.std.proofs.Common.{◌≡◌, ℕ, ◌+◌, ◌-◌, ◌*◌, ◌/◌, ◌%◌, ◌^◌, ◌<◌, ◌≤◌, min, Bool, true, false, cond, not, ◌&&◌, eqb, leb, List, length, get_or, sym, refl, ap, ◌∙◌, ⊎_elim, add-one, arith, lit<}
 use lib.Bits.{bit_and, bit_or}
-use Rattle.std.proofs.lemmas.Bool.{cases_Bool, cases_lt, le-leb, lt-leb, and_left}
+use Rattle.std.proofs.lemmas.Bool.{cases_Bool, cases_lt, le-leb, lt-leb}
 use Rattle.rules.specs.Words.{word_of}
 use Rattle.rules.specs.Terms.{Term, occurs, scanned}
 use Rattle.rules.proofs.Occurs.{occurs-past}
-use Rattle.rules.proofs.Words.{word_none, word_ones, word_same}
-use Rattle.matchers.specs.Places.{hits, Rows, state_after, or_row, or_step, or_state, and_row, and_step, and_state}
+use Rattle.rules.proofs.Words.{word_none, word_ones}
+use Rattle.matchers.specs.Places.{Rows, state_after, or_step, or_state, and_step, and_state}
 use Rattle.shifts.specs.Marks.{marked_at}
-use Rattle.matchers.proofs.Forward.{live, live-last, ends_at, next, state-lives, step_clear, step_set, clear-same, set_same, test-clear, test-set}
+use Rattle.matchers.proofs.Forward.{live, live-last, ends_at, state-lives, step_clear, step_set, clear-same, set_same, test-clear, test-set}
 use Rattle.matchers.proofs.Marking.{marked_below, marked-none, marked_more, marked_other, marked_all}
 
 -- one byte more, by the table

@@ -1,4 +1,6 @@
 // Plays every galley and stacks of layers over buffers of telling lengths: every byte value put and read back, fetches at the end, what comes back. What it prints is held to plain lists in reference/.
+#![tactic(auto)]
+
 use galleys::byte::ByteGalley;
 use galleys::galley::Galley;
 use galleys::six_bit::SixBitGalley;

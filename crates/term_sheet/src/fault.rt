@@ -6,7 +6,7 @@ use rules::refusal::Refusal;
 use std::fmt;
 
 // The layer at fault: the sheet's own rules, or the indexer that a line was entered into. Then the line, the place of the byte in the sheet, and the refusal.
-#[derive(Clone, Copy)]
+#[derive(Clone, Copy, PartialEq, Eq, Debug)]
 pub enum Fault {
     Sheet {
         line: usize,

@@ -1,4 +1,6 @@
 // Takes one task from start to finish over the library, and prints each action with its answer.
+#![tactic(auto)]
+
 ghost use Rattle.index_file.specs.Files.{Reaches};
 
 use galleys::byte::ByteGalley;

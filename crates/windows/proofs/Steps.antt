@@ -1,11 +1,11 @@
 -- A window goes on step by step, and is left where every one of its bits is set. Assumes nothing.
-use Rattle.std.proofs.Common.{◌≡◌, ℕ, zero, suc, ◌+◌, ◌-◌, ◌*◌, ◌/◌, ◌%◌, ◌^◌, ◌<◌, ◌≤◌, Bool, true, false, cond, not, ◌&&◌, eqb, ltb, leb, List, length, Some, None, sym, refl, ap, ◌∙◌, subst, ⊎_elim, mul-le-mul, arith}
+use Rattle.std.proofs.Common.{◌≡◌, ℕ, zero, suc, ◌+◌, ◌-◌, ◌*◌, ◌/◌, ◌%◌, ◌^◌, ◌<◌, ◌≤◌, Bool, true, false, cond, not, ◌&&◌, eqb, ltb, leb, List, length, Some, None, sym, ap, ◌∙◌, ⊎_elim, mul-le-mul, arith}
 use lib.Bits.{bit_and, bit_or}
-use Rattle.std.proofs.lemmas.Bool.{cases_Bool, both_ways, not_from_false, not_from_true, lt-leb, and_left, and_right, and_from}
+use Rattle.std.proofs.lemmas.Bool.{cases_Bool, both_ways, not_from_false, not_from_true, lt-leb, and_right, and_from}
 use Rattle.rules.specs.Words.{all}
 use Rattle.rules.specs.Terms.{Term}
 use Rattle.rules.proofs.Words.{all-is, all_more}
-use Rattle.windows.specs.Windows.{low_bit, full_word, word_at, window_state, is_full, centre, is_window, window_steps, two_way_state}
+use Rattle.windows.specs.Windows.{full_word, word_at, window_state, is_full, centre, is_window, window_steps, two_way_state}
 
 -- one step more
 pub window-step : (t : Term) (text : List ℕ) (c j state more : ℕ) → 0 < j → state ≡ window_state t text c (j - 1) →

@@ -1,14 +1,14 @@
 -- The two-way rule, over the width and the term's length. Assumes nothing.
-use Rattle.std.proofs.Common.{◌≡◌, ℕ, zero, suc, ◌+◌, ◌-◌, ◌*◌, ◌/◌, ◌%◌, ◌^◌, ◌<◌, ◌≤◌, Bool, true, false, cond, not, ◌&&◌, ◌||◌, eqb, ltb, leb, ◌⊎◌, List, length, get_or, sym, refl, ap, ◌∙◌, subst, inl, inr, ⊎_elim, suc-add, zero-add, arith}
+use Rattle.std.proofs.Common.{◌≡◌, ℕ, zero, suc, ◌+◌, ◌-◌, ◌*◌, ◌/◌, ◌%◌, ◌^◌, ◌<◌, ◌≤◌, Bool, true, false, cond, not, ◌&&◌, ◌||◌, ltb, leb, List, length, get_or, sym, refl, ap, ◌∙◌, ⊎_elim, suc-add, zero-add, arith}
 use mathlib.Core.Bool.{and-true}
-use lib.Bits.{bit_and, bit_or}
+use lib.Bits.{bit_or}
 use Rattle.std.proofs.lemmas.Bool.Decides.{nat_tests, same_from_decides}
 use Rattle.std.proofs.lemmas.Bool.{ltb-true, lt-ltb, le-ltb, le-leb, cases_lt, cases_Bool, and_parts, and_from, or_parts, or_from, not-true, not-false, not_from_true, not_from_false}
-use Rattle.rules.specs.Words.{word_of, bit}
+use Rattle.rules.specs.Words.{word_of}
 use Rattle.rules.specs.Terms.{Term, occurs}
-use Rattle.rules.proofs.Words.{word-or, word_and, word_shl, word-shr, word_same, word-inj, bit_is}
+use Rattle.rules.proofs.Words.{word-or, word_shl, word-shr, word_same}
 use Rattle.matchers.specs.Places.{hits, clear_row}
-use Rattle.windows.specs.Windows.{low_bit, full_word, word_at, window_state, is_full}
+use Rattle.windows.specs.Windows.{low_bit, full_word, word_at, window_state}
 use Rattle.matchers.proofs.Forward.{occurs-each}
 
 -- place i of the term matches the text's byte at p; no place matches past the text's end

@@ -1,5 +1,5 @@
 -- The two-way matcher: windows that are read from their centre both ways. Words have 64 bits, of which the m highest, from d = 64 - m up, are the term's places. Assumes nothing.
-use Rattle.std.specs.Prelude.{ℕ, zero, suc, ◌+◌, ◌-◌, ◌*◌, ◌/◌, ◌%◌, ◌^◌, Bool, true, false, cond, not, ◌&&◌, ◌||◌, leb, List, length, Some, None, Option, ◌==◌, bit_and, bit_or, nat_le, nat_lt, slice_index}
+use Rattle.std.specs.Prelude.{ℕ, zero, suc, ◌+◌, ◌-◌, ◌*◌, ◌/◌, ◌%◌, ◌^◌, Bool, cond, not, ◌&&◌, ◌||◌, leb, List, length, Some, None, Option, ◌==◌, bit_and, bit_or, nat_le, nat_lt, slice_index}
 use Rattle.rules.specs.Words.{word_of, bit, all}
 use Rattle.rules.specs.Terms.{Term}
 use Rattle.matchers.specs.Places.{clear_row}

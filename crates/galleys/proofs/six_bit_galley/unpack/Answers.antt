@@ -1,4 +1,4 @@
-use Rattle.std.proofs.Common.{◌≡◌, ℕ, ◌+◌, ◌<◌, List, length, get_or, set, sym, ap, ◌∙◌, subst, arith}
+use Rattle.std.proofs.Common.{◌≡◌, ℕ, ◌+◌, length, get_or, set, ap, ◌∙◌, arith}
 use Rattle.std.proofs.lemmas.List.Edits.{fill_by_more}
 use Rattle.galleys.specs.Packing.{code_at, code_text}
 use Rattle.galleys.specs.Codes.{text-filled}
@@ -7,7 +7,7 @@ use Rattle.galleys.proofs.six_bit_galley.unpack.Goals as goal
 pub loop-i-preserved : goal.loop-i-preserved
 loop-i-preserved c =
     let f : ℕ → ℕ = λ k. 32 + code_at c.args.packed.now (c.args.at + k) in
-    let x : 32 + c.code-at.result ≡ f c.loop-i.i = ap (λ v. 32 + v) c.code-at.ensures.value in
+    let x : 32 + c.code_at.result ≡ f c.loop-i.i = ap (λ v. 32 + v) c.code_at.ensures.value in
     λ k l.
     ap (λ v. get_or (set c.loop-i.buffer c.loop-i.i v) k 0) x
     ∙ fill_by_more f c.loop-i.buffer c.loop-i.i 0 (omega arith) c.loop-i.invariant k l

@@ -5,9 +5,9 @@ use Rattle.rules.proofs.Occurs.{occurs-past, own-occurs}
 use Rattle.galleys.proofs.Calls.{fetched-within, fetched-past}
 use Rattle.indexer.proofs.variants.stands_at.Goals as goal
 
-pub returns-in-default : goal.returns-in-default
-returns-in-default g c =
-    let past = fetched-past (g.G.Galley.text c.args.galley.now) c.args.start c.args.buffer.now _ _ c.in-default.ensures.fetched in
+pub returns-in_default : goal.returns-in_default
+returns-in_default g c =
+    let past = fetched-past (g.G.Galley.text c.args.galley.now) c.args.start c.args.buffer.now _ _ c.in_default.ensures.fetched in
     record { value = sym (occurs-past (record { bytes = c.args.bytes.now; limit = 0 }) (g.G.Galley.text c.args.galley.now) c.args.start (omega arith)) }
 
 pub returns : goal.returns
@@ -19,6 +19,6 @@ returns g c =
     let fits : s + length bytes ≤ length text = omega (arith, f.0) in
     let read : c.fetch.new.buffer ≡ take (length bytes) (drop s text) = f.1 ∙ ap (λ l. take l (drop s text)) (omega arith) in
     record {
-      value = same_from_decides c.same-bytes.result (occurs (record { bytes = bytes; limit = 0 }) text s)
-          (Decides-like c.same-bytes.result (λ e. sym read ∙ e) (λ e. read ∙ e) c.same-bytes.ensures) (own-occurs bytes text s fits);
+      value = same_from_decides c.same_bytes.result (occurs (record { bytes = bytes; limit = 0 }) text s)
+          (Decides-like c.same_bytes.result (λ e. sym read ∙ e) (λ e. read ∙ e) c.same_bytes.ensures) (own-occurs bytes text s fits);
     }

@@ -1,4 +1,4 @@
-use Rattle.std.proofs.Common.{◌≡◌, length, take, drop, ap, ◌∙◌, arith, length-take}
+use Rattle.std.proofs.Common.{length, take, drop, ap, ◌∙◌, arith, length-take}
 use Rattle.layers.specs.Pasted.{paste_list}
 use Rattle.layers.specs.Overlays.{over_none, laid_in, laid-before, laid-behind}
 use Rattle.layers.proofs.paste_up_galley.lay.Goals as goal

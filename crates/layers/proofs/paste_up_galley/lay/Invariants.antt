@@ -1,4 +1,4 @@
-use Rattle.std.proofs.Common.{◌≡◌, ℕ, ◌+◌, ◌≤◌, List, length, take, drop}
+use Rattle.std.proofs.Common.{drop}
 use Rattle.layers.specs.Pasted.{Laid, paste_list}
 use Rattle.layers.proofs.paste_up_galley.lay.Given as goal
 

@@ -1,4 +1,4 @@
-use Rattle.std.proofs.Common.{false, ◌&&◌, ltb, ap, arith}
+use Rattle.std.proofs.Common.{◌&&◌, ltb, ap}
 use Rattle.ledger.specs.Books.{touches}
 use Rattle.ledger.specs.Terms.{standing}
 use Rattle.ledger.proofs.Rows.{none-past}
@@ -6,7 +6,7 @@ use Rattle.ledger.proofs.Touching.{touch-more, touch-all}
 use Rattle.ledger.proofs.book.touch_all.Goals as goal
 
 pub loop-n-preserved : goal.loop-n-preserved
-loop-n-preserved c = λ n b. touch-more (λ k. touches (standing c.args.terms.now k) c.args.at c.args.l b && ltb b 256) c.loop-n.n n _ _ _ (c.touch-one.ensures.after n b) (c.loop-n.invariant n b)
+loop-n-preserved c = λ n b. touch-more (λ k. touches (standing c.args.terms.now k) c.args.at c.args.l b && ltb b 256) c.loop-n.n n _ _ _ (c.touch_one.ensures.after n b) (c.loop-n.invariant n b)
 
 pub returns : goal.returns
 returns c = record {

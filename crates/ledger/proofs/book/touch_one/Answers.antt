@@ -1,4 +1,4 @@
-use Rattle.std.proofs.Common.{◌≡◌, ℕ, ◌≤◌, Bool, true, false, cond, ◌&&◌, eqb, ltb, sym, refl, ap, ◌∙◌, arith}
+use Rattle.std.proofs.Common.{◌≤◌, true, cond, ◌&&◌, eqb, ltb, sym, ap, ◌∙◌, arith}
 use mathlib.Core.Bool.{and-false}
 use Rattle.std.proofs.lemmas.Bool.Decides.{nat_tests}
 use Rattle.ledger.specs.Books.{touches}
@@ -6,9 +6,9 @@ use Rattle.ledger.specs.Debts.{owes}
 use Rattle.ledger.proofs.Rows.{none-past}
 use Rattle.ledger.proofs.book.touch_one.Goals as goal
 
-pub returns-in-default : goal.returns-in-default
-returns-in-default c =
-    let refused = c.in-default.ensures.cases in
+pub returns-in_default : goal.returns-in_default
+returns-in_default c =
+    let refused = c.in_default.ensures.cases in
     let past : 16 ≤ c.args.n = grind (arith, nat_tests) in
     record {
       after = λ k b.

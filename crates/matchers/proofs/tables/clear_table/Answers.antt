@@ -1,4 +1,4 @@
-use Rattle.std.proofs.Common.{◌≡◌, ℕ, ◌+◌, ◌-◌, ◌*◌, ◌%◌, ◌^◌, ◌<◌, ◌≤◌, length, get_or, refl, ◌∙◌, arith, length-set, rules}
+use Rattle.std.proofs.Common.{◌+◌, ◌-◌, ◌*◌, ◌%◌, ◌^◌, get_or, refl, ◌∙◌, arith, length-set, rules}
 use lib.Bits.{bit_and}
 use Rattle.rules.specs.Terms.{Term}
 use Rattle.matchers.proofs.Filling.{clear_view, clear_view-same, clear_view-marks, clear_none, clear-all, rows-more-exact}

@@ -1,4 +1,4 @@
-use Rattle.std.proofs.Common.{◌≡◌, ℕ, ◌+◌, ◌*◌, ◌%◌, ◌^◌, ◌<◌, Bool, cond, ◌&&◌, ltb, List, length, get_or, sym, refl, ap, ◌∙◌, subst, arith, length-set, rules}
+use Rattle.std.proofs.Common.{ℕ, ◌+◌, ◌*◌, ◌%◌, ◌^◌, ◌<◌, Bool, cond, ◌&&◌, ltb, List, length, get_or, sym, refl, ap, ◌∙◌, subst, arith, length-set, rules}
 use lib.Bits.{bit_or}
 use Rattle.rules.specs.Terms.{Term}
 use Rattle.rules.specs.Words.{word_of}
@@ -22,11 +22,11 @@ loop-i-preserved c =
     let few : i < 32 = omega arith in
     elim c.if-i-k.branch [
       | then-i-k w ↦
-          let more = w.set-folded.new.table in (
-            ap length w.table-is ∙ w.set-folded.auto.table ∙ c.loop-i.invariant.0,
+          let more = w.set_folded.new.table in (
+            ap length w.table-is ∙ w.set_folded.auto.table ∙ c.loop-i.invariant.0,
             subst (λ (xs : List ℕ). Rows xs (λ b. word_of (λ j. ltb j (i + 1) && hits t j b) 32)) (sym w.table-is)
                 (rows_more V (set_same 32) mark t i (set-marks i few) table more
-                (λ b l. w.set-folded.ensures.rows b l ∙ ap (λ h. cond h (mark (get_or table b 0)) (get_or table b 0)) (sym (hits-folded t i b (omega arith) w.if-i-k.true)))
+                (λ b l. w.set_folded.ensures.rows b l ∙ ap (λ h. cond h (mark (get_or table b 0)) (get_or table b 0)) (sym (hits-folded t i b (omega arith) w.if-i-k.true)))
                 c.loop-i.invariant.1),
           )
       | else-i-k w ↦ (

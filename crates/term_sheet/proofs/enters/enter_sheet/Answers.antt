@@ -9,19 +9,19 @@ use Rattle.term_sheet.specs.Entered.{Entered}
 use Rattle.term_sheet.proofs.Entering.{entered-refused}
 use Rattle.term_sheet.proofs.enters.enter_sheet.Goals as goal
 
-pub returns-in-err-enter-entry : goal.returns-in-err-enter-entry
-returns-in-err-enter-entry g c =
+pub returns-in_err-enter_entry : goal.returns-in_err-enter_entry
+returns-in_err-enter_entry g c =
     let fit = g.M.Matcher.fit in
     let text = g.G.Galley.text in
     let shows = g.G.Galley.shows in
     let i = c.args.indexer.now in
     let sheet = sheet_reading c.args.sheet.now in
-    let p = err_from_is_err_and c.from-residual-in-err-enter-entry.result c.from-residual-in-err-enter-entry.ensures.1 in
-    let f = c.in-err-enter-entry.field-0.0 in
+    let p = err_from_is_err_and c.from_residual-in_err-enter_entry.result c.from_residual-in_err-enter_entry.ensures.1 in
+    let f = c.in_err-enter_entry.field-0.0 in
     let entry = c.in-Some.entry in
     let was = ahead c.loop-entry.reader in
     let rest = ahead c.next.new.self in
-    let given : Next was (Ok (Some entry)) rest = subst (λ o. Next was (Ok o) rest) c.in-Some.is c.in-ok-entry.ensures.cases in
-    let refused : Entered fit text shows i sheet (Err f) c.enter-entry.new.indexer =
-    entered-refused g.M.Matcher.held fit text shows i sheet c.loop-entry.indexer was rest (entry_of entry) c.loop-entry.invariant given c.enter-entry.new.indexer f c.in-err-enter-entry.ensures.entered in
-    record { entered = subst (λ (r : Result (Unit {0}) Fault). Entered fit text shows i sheet r c.enter-entry.new.indexer) (ap (λ (x : Fault). Err x) (sym p.2) ∙ sym p.1) refused }
+    let given : Next was (Ok (Some entry)) rest = subst (λ o. Next was (Ok o) rest) c.in-Some.is c.in_ok-entry.ensures.cases in
+    let refused : Entered fit text shows i sheet (Err f) c.enter_entry.new.indexer =
+    entered-refused g.M.Matcher.held fit text shows i sheet c.loop-entry.indexer was rest (entry_of entry) c.loop-entry.invariant given c.enter_entry.new.indexer f c.in_err-enter_entry.ensures.entered in
+    record { entered = subst (λ (r : Result (Unit {0}) Fault). Entered fit text shows i sheet r c.enter_entry.new.indexer) (ap (λ (x : Fault). Err x) (sym p.2) ∙ sym p.1) refused }

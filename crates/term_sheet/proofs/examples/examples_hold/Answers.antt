@@ -8,7 +8,7 @@ unfolding before behind number_behind field_value lines reading
 returns c = record {
   value = record {
     fault-in-second-line = refl;
-    empty-lines = refl;
+    empty_lines = refl;
     no_lines = refl;
     empty-term = refl;
     spaces = refl;

@@ -4,14 +4,14 @@ use Rattle.term_sheet.specs.Fields.{is_digit}
 use Rattle.term_sheet.proofs.Cuts.{number_more, number-stops, number-all, number-below, field-within, field-empty, field-long}
 use Rattle.term_sheet.proofs.fields.field_value.Goals as goal
 
-pub returns-then-is-empty : goal.returns-then-is-empty
-returns-then-is-empty c = record { value = sym (field-empty c.args.field.now (grind (arith, nat_tests))) }
+pub returns-then-is_empty : goal.returns-then-is_empty
+returns-then-is_empty c = record { value = sym (field-empty c.args.field.now (grind (arith, nat_tests))) }
 
 pub returns-then-field-gt3 : goal.returns-then-field-gt3
 returns-then-field-gt3 c = record { value = sym (field-long c.args.field.now (omega arith)) }
 
-pub returns-then-not-is-ascii-digit : goal.returns-then-not-is-ascii-digit
-returns-then-not-is-ascii-digit c =
+pub returns-then-not-is_ascii_digit : goal.returns-then-not-is_ascii_digit
+returns-then-not-is_ascii_digit c =
     let other : is_digit (get_or c.args.field.now c.loop-b.b-index 0) ≡ false = grind (arith, nat_tests) in
     record { value = sym (field-within c.args.field.now (grind (arith, nat_tests)) (omega arith) ∙ sym c.loop-b.invariant.0 ∙ number-stops c.loop-b.value c.args.field.now c.loop-b.b-index c.loop-b-test.true other) }
 

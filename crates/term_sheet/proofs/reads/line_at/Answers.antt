@@ -15,8 +15,8 @@ bounded sheet bytes at h e =
     let b = ap length e in
     omega arith
 
-pub overflow-sub-result : goal.overflow-sub-result
-overflow-sub-result c =
+pub overflow_sub-result : goal.overflow_sub-result
+overflow_sub-result c =
     let l = length-behind 10 (drop c.args.at c.args.sheet.now) c.in-Some.rest.now (found c) in
     let d = length-drop c.args.at c.args.sheet.now in
     omega arith

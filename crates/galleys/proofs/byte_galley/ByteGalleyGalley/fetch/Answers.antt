@@ -1,4 +1,4 @@
-use Rattle.std.proofs.Common.{◌≡◌, ◌+◌, ◌-◌, ◌<◌, min, length, take, drop, vec_items, sym, refl, ap, ◌∙◌, arith, length-take}
+use Rattle.std.proofs.Common.{◌≡◌, ◌+◌, ◌-◌, min, length, take, drop, vec_items, refl, ap, ◌∙◌, arith, length-take}
 use Rattle.galleys.specs.Byte.{byte_text}
 use Rattle.galleys.proofs.Calls.{fetched-all, fetched-none}
 use Rattle.galleys.proofs.Parts.{part_of}
@@ -11,7 +11,7 @@ returns c =
     let items = vec_items s.buffer in
     let size = s.buffer.ok.0 in
     let n : length (byte_text s) ≡ min 16384 (length items) = length-take 16384 items in
-    let read = c.copy-from-slice.ensures.after ∙ ap (λ xs. take (c.args.at + l - c.args.at) (drop c.args.at xs)) c.deref.ensures.value in
+    let read = c.copy_from_slice.ensures.after ∙ ap (λ xs. take (c.args.at + l - c.args.at) (drop c.args.at xs)) c.deref.ensures.value in
     record { fetched = fetched-all (byte_text s) c.args.at c.args.buffer.now _ (omega arith) (read ∙ part_of 16384 items c.args.at l (omega arith) (omega arith)) }
 
 pub returns-then-l-n : goal.returns-then-l-n

@@ -1,4 +1,4 @@
-use Rattle.std.proofs.Common.{◌≡◌, false, length, vec_items, sym, refl, ap, ◌∙◌, arith, length-take}
+use Rattle.std.proofs.Common.{false, vec_items, refl, arith, length-take}
 use Rattle.std.proofs.lemmas.Bool.{both_ways}
 use Rattle.galleys.specs.Byte.{byte_text}
 use Rattle.galleys.proofs.Calls.{put_one, put-none}

@@ -1,4 +1,4 @@
-use Rattle.std.proofs.Common.{◌≡◌, ℕ, ◌+◌, ◌-◌, true, false, List, length, set, vec_items, sym, refl, ap, ◌∙◌, subst, arith}
+use Rattle.std.proofs.Common.{◌≡◌, ℕ, ◌+◌, ◌-◌, false, List, length, set, vec_items, sym, refl, ap, ◌∙◌, subst, arith}
 use Rattle.std.specs.Vec.{with_items}
 use Rattle.std.proofs.lemmas.List.{with_items_is}
 use Rattle.std.proofs.lemmas.Bool.{both_ways}
@@ -18,7 +18,7 @@ recode-requires c =
     let items = vec_items c.args.self.now.buffer in
     let n = length-text items 0 (six_length items) in
     let coded = shown-coded c.args.b in
-    let long : length c.as-mut-slice.result.now ≡ length items = ap length c.as-mut-slice.ensures.value in
+    let long : length c.as_mut_slice.result.now ≡ length items = ap length c.as_mut_slice.ensures.value in
     (omega (arith, c.length.ensures.value), omega (arith, c.shown.ensures.value))
 
 pub returns : goal.returns
@@ -29,8 +29,8 @@ returns c =
     let new = c.recode.new.buffer in
     let code = six_shown c.args.b - 32 in
     let n = length-text items 0 (six_length items) in
-    let whole : vec_items (with_items s.buffer new) ≡ new = with_items_is s.buffer new (c.recode.auto.buffer ∙ c.as-mut-slice.ensures.len) in
-    let slice = subst (λ (xs : List ℕ). Recoded xs at (c.shown.result - 32) new) c.as-mut-slice.ensures.value c.recode.ensures.recoded in
+    let whole : vec_items (with_items s.buffer new) ≡ new = with_items_is s.buffer new (c.recode.auto.buffer ∙ c.as_mut_slice.ensures.len) in
+    let slice = subst (λ (xs : List ℕ). Recoded xs at (c.shown.result - 32) new) c.as_mut_slice.ensures.value c.recode.ensures.recoded in
     let coded : Recoded items at code new = subst (λ (x : ℕ). Recoded items at (x - 32) new) c.shown.ensures.value slice in
     let recoded : Recoded items at code (vec_items (with_items s.buffer new)) = subst (λ (xs : List ℕ). Recoded items at code xs) (sym whole) coded in
     let back : 32 + code ≡ six_shown c.args.b = omega (arith, (shown-coded c.args.b).0) in

@@ -5,7 +5,7 @@ use Rattle.ledger.specs.Debts.{owed}
 use Rattle.ledger.specs.Units.{unit_index}
 use Rattle.indexer.proofs.Runs.{ran-none, ran-within, ran-more, none_before, ran-all, run-called}
 use Rattle.indexer.proofs.index.Indexer.run.Goals as goal
-use Rattle.indexer.proofs.index.Indexer.run.Goals.{else-loop-done-test, then-loop-done-test+in-default}
+use Rattle.indexer.proofs.index.Indexer.run.Goals.{else-loop-done-test, then-loop-done-test+in_default}
 
 pub loop-done-init : goal.loop-done-init
 loop-done-init g c =
@@ -43,9 +43,9 @@ returns g c =
     let all : d ≡ min c.args.u (count (owed i.ledger.debts) 4096) =
     elim c.loop-done-test.branch [
       | else-loop-done-test w ↦ omega (arith, w.loop-done-test.false)
-      | then-loop-done-test+in-default w ↦
+      | then-loop-done-test+in_default w ↦
           let none : (y : ℕ) → y < 4096 → owed j.ledger.debts y ≡ false =
-          λ y l. ⊎_elim (λ (k : y < 16 * c.loop-done.from). c.loop-done.invariant.2 y k) (λ (k : 16 * c.loop-done.from ≤ y). w.in-default.ensures.value y k l) (cases_lt y (16 * c.loop-done.from)) in
+          λ y l. ⊎_elim (λ (k : y < 16 * c.loop-done.from). c.loop-done.invariant.2 y k) (λ (k : 16 * c.loop-done.from ≤ y). w.in_default.ensures.value y k l) (cases_lt y (16 * c.loop-done.from)) in
           omega (arith, ran-all held fit text i j d ran none)
     ] in
     record { called = run-called held fit text i j d ran g.G.Galley.shows c.args.u c.count.result all c.count.ensures.value }

@@ -7,21 +7,21 @@ use Rattle.indexer.specs.Called.{view}
 use Rattle.indexer.proofs.Calls.{withdraw-refused, withdraw-called, first-refuses, first_passes, row-stands, passed_on}
 use Rattle.indexer.proofs.index.Indexer.withdraw.Goals as goal
 
-pub returns-in-err-number : goal.returns-in-err-number
-returns-in-err-number g c =
+pub returns-in_err-number : goal.returns-in_err-number
+returns-in_err-number g c =
     let i = c.args.self.now in
-    let p = err_from_is_err_and c.from-residual.result c.from-residual.ensures.1 in
+    let p = err_from_is_err_and c.from_residual.result c.from_residual.ensures.1 in
     record {
-      called = withdraw-refused g.M.Matcher.held g.M.Matcher.fit g.G.Galley.text g.G.Galley.shows i c.args.number p.0 c.from-residual.result p.1
-          (first-refuses p.0 _ _ (passed_on _ _ p.0 c.in-err-number.ensures.cases p.2));
+      called = withdraw-refused g.M.Matcher.held g.M.Matcher.fit g.G.Galley.text g.G.Galley.shows i c.args.number p.0 c.from_residual.result p.1
+          (first-refuses p.0 _ _ (passed_on _ _ p.0 c.in_err-number.ensures.cases p.2));
     }
 
-pub returns-then-is-none : goal.returns-then-is-none
-returns-then-is-none g c =
+pub returns-then-is_none : goal.returns-then-is_none
+returns-then-is_none g c =
     let i = c.args.self.now in
     let text = g.G.Galley.text in
-    let number = c.in-ok-number.ensures.cases in
-    let none = row-stands term_of (view text i).stands c.in-ok-number.number.value c.args.number c.term.result false number.0 c.term.ensures.value (sym c.if-is-none.ensures) in
+    let number = c.in_ok-number.ensures.cases in
+    let none = row-stands term_of (view text i).stands c.in_ok-number.number.value c.args.number c.term.result false number.0 c.term.ensures.value (sym c.if-is_none.ensures) in
     record {
       called = withdraw-refused g.M.Matcher.held g.M.Matcher.fit text g.G.Galley.shows i c.args.number NoTermStands _ refl
           (first_passes _ _ number.1 ∙ ap (λ b. cond b None (Some NoTermStands)) none);
@@ -31,8 +31,8 @@ pub returns : goal.returns
 returns g c =
     let i = c.args.self.now in
     let text = g.G.Galley.text in
-    let number = c.in-ok-number.ensures.cases in
-    let some = row-stands term_of (view text i).stands c.in-ok-number.number.value c.args.number c.term.result true number.0 c.term.ensures.value (sym c.if-is-none.ensures) in
+    let number = c.in_ok-number.ensures.cases in
+    let some = row-stands term_of (view text i).stands c.in_ok-number.number.value c.args.number c.term.result true number.0 c.term.ensures.value (sym c.if-is_none.ensures) in
     record {
       called = withdraw-called g.M.Matcher.held g.M.Matcher.fit text g.G.Galley.shows i c.args.number c.withdraw.new.self
           (first_passes _ _ number.1 ∙ ap (λ b. cond b None (Some NoTermStands)) some) (g.met.G.Galley.texts i.galley).short

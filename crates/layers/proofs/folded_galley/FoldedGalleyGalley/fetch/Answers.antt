@@ -1,4 +1,4 @@
-use Rattle.std.proofs.Common.{◌≡◌, map, length, take, drop, sym, ap, ◌∙◌}
+use Rattle.std.proofs.Common.{map, length, take, drop, sym, ap, ◌∙◌}
 use lib.ListN.{length-map}
 use Rattle.std.proofs.lemmas.List.{take-map, drop-map}
 use Rattle.std.proofs.lemmas.Result.{err_from_is_err_and}
@@ -8,11 +8,11 @@ use Rattle.layers.specs.Folded.{folded_text}
 use Rattle.layers.proofs.Fetches.{fetched-through, refused-through}
 use Rattle.layers.proofs.folded_galley.FoldedGalleyGalley.fetch.Goals as goal
 
-pub returns-in-err-fetch : goal.returns-in-err-fetch
-returns-in-err-fetch g c =
+pub returns-in_err-fetch : goal.returns-in_err-fetch
+returns-in_err-fetch g c =
     let text = g.G.Galley.text c.args.self.now.below in
-    let p = err_from_is_err_and c.from-residual.result c.from-residual.ensures.1 in
-    rw (p.1, p.2) (record { fetched = refused-through text (folded_text text) (length-map text folded) c.args.at c.args.buffer.now _ _ c.in-err-fetch.ensures.fetched })
+    let p = err_from_is_err_and c.from_residual.result c.from_residual.ensures.1 in
+    rw (p.1, p.2) (record { fetched = refused-through text (folded_text text) (length-map text folded) c.args.at c.args.buffer.now _ _ c.in_err-fetch.ensures.fetched })
 
 pub returns : goal.returns
 returns g c =
@@ -20,8 +20,8 @@ returns g c =
     let at = c.args.at in
     let old = c.args.buffer.now in
     let l = length old in
-    let got = c.in-ok-fetch.ensures.fetched in
+    let got = c.in_ok-fetch.ensures.fetched in
     record {
       fetched = fetched-through text (folded_text text) (length-map text folded) at old c.fetch.new.buffer _ _ got
-          (c.fold-all.ensures.after ∙ ap (map folded) (fetched-within text at old _ _ got).1 ∙ sym (ap (take l) (drop-map folded at text) ∙ take-map folded l (drop at text)));
+          (c.fold_all.ensures.after ∙ ap (map folded) (fetched-within text at old _ _ got).1 ∙ sym (ap (take l) (drop-map folded at text) ∙ take-map folded l (drop at text)));
     }

@@ -1,4 +1,4 @@
-use Rattle.std.proofs.Common.{◌≡◌, ℕ, ◌+◌, ◌<◌, max, length, take, set, sym, ap, ◌∙◌, arith, length-set, length-take, rules}
+use Rattle.std.proofs.Common.{◌≡◌, ℕ, ◌<◌, take, set, sym, ap, ◌∙◌, arith, length-set, length-take, rules}
 use Rattle.std.proofs.lemmas.Bool.{eqb-false}
 use Rattle.layers.specs.Pasted.{first_at, paste_list}
 use Rattle.layers.specs.declared.pastes.Pastes.{Pastes}
@@ -11,24 +11,24 @@ roomy s at i is not_full =
     let other : i ≡ 32 → ⊥ = λ e. not_full (sym is ∙ e) in
     omega (arith, first-le (paste_list s) at, length-take s.held s.all, s.few, s.whole)
 
-pub overflow-add-i : goal.overflow-add-i
-overflow-add-i c =
+pub overflow_add-i : goal.overflow_add-i
+overflow_add-i c =
     let room = roomy c.args.self.now c.args.at c.find-i.result c.find-i.ensures.value (eqb-false _ _ c.requires) in
     search rules
 
-pub offset-bounds-all-i : goal.offset-bounds-all-i
-offset-bounds-all-i c =
+pub offset_bounds-all-i : goal.offset_bounds-all-i
+offset_bounds-all-i c =
     let room = roomy c.args.self.now c.args.at c.find-i.result c.find-i.ensures.value (eqb-false _ _ c.requires) in
     search rules
 
 pub bounds-all-i : goal.bounds-all-i
 bounds-all-i c = roomy c.args.self.now c.args.at c.find-i.result c.find-i.ensures.value (eqb-false _ _ c.requires)
 
-pub invariant-of-self : goal.invariant-of-self
-invariant-of-self c =
+pub invariant_of-self : goal.invariant_of-self
+invariant_of-self c =
     let s = c.args.self.now in
     let room = roomy s c.args.at c.find-i.result c.find-i.ensures.value (eqb-false _ _ c.requires) in
-    (omega (arith, c.max-held.ensures, s.few), (length-set s.all c.find-i.result _ ∙ s.whole, tt))
+    record { few = omega (arith, c.max-held.ensures, s.few); whole = length-set s.all c.find-i.result _ ∙ s.whole }
 
 pub returns : goal.returns
 returns c =

@@ -1,4 +1,4 @@
-use Rattle.std.proofs.Common.{◌≡◌, ℕ, Bool, true, false, cond, ◌&&◌, eqb, ltb, leb, refl, ap, ◌∙◌, arith}
+use Rattle.std.proofs.Common.{false, cond, ◌&&◌, eqb, ltb, refl, ap, ◌∙◌, arith}
 use Rattle.std.proofs.lemmas.Bool.{le-leb}
 use Rattle.ledger.specs.Debts.{owes}
 use Rattle.ledger.proofs.book.Ledger.withdraw.Goals as goal

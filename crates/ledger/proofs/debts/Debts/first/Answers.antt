@@ -8,7 +8,7 @@ loop-b-preserved c = λ x low high.
     let b = c.loop-b.b in
     ⊎_elim
     (λ (l : x < 16 * b). c.loop-b.invariant x low l)
-    (λ (l : 16 * b ≤ x). none-at c.args.self.now b c.in-default.ensures.value x (omega arith))
+    (λ (l : 16 * b ≤ x). none-at c.args.self.now b c.in_default.ensures.value x (omega arith))
     (cases_lt x (16 * b))
 
 pub returns-in-Some : goal.returns-in-Some

@@ -6,8 +6,8 @@ use Rattle.matchers.specs.Compare.{comparer_term}
 use Rattle.matchers.proofs.Scans.{answer-unheld, answer-long, answer-given}
 use Rattle.matchers.proofs.comparer.ComparerMatcher.scan.Goals as goal
 
-pub returns-in-default : goal.returns-in-default
-returns-in-default c = record { value = answer-unheld scanned (comparer_term c.args.self.now) c.args.stretch.now (ap (option_map term_of) c.in-default.is) }
+pub returns-in_default : goal.returns-in_default
+returns-in_default c = record { value = answer-unheld scanned (comparer_term c.args.self.now) c.args.stretch.now (ap (option_map term_of) c.in_default.is) }
 
 pub returns-then-stretch-gt127 : goal.returns-then-stretch-gt127
 returns-then-stretch-gt127 c = record { value = answer-long scanned (comparer_term c.args.self.now) c.args.stretch.now (term_of c.in-Some.term) (ap (option_map term_of) c.in-Some.is) c.if-stretch-gt127.true }

@@ -1,4 +1,4 @@
-use Rattle.std.proofs.Common.{◌≡◌, ℕ, ◌-◌, ◌^◌, length, ap, ◌∙◌, arith, rules}
+use Rattle.std.proofs.Common.{◌≡◌, length, ap, ◌∙◌, arith, rules}
 use Rattle.matchers.specs.Places.{held_places, and_row, and_step, and_state}
 use Rattle.shifts.proofs.Reading.{state-more}
 use Rattle.matchers.proofs.Scans.{answer-held}

@@ -1,4 +1,3 @@
-use Rattle.std.proofs.Common.{◌-◌, ◌^◌}
 use Rattle.matchers.specs.Places.{held_places, and_row, and_step}
 use Rattle.shifts.proofs.Reading.{Read}
 use Rattle.shifts.proofs.shift_and.ShiftAnd.word.Given as goal

@@ -1,5 +1,5 @@
 use Rattle.matchers.proofs.Filling.{or-none}
 use Rattle.shifts.proofs.shift_or.ShiftOr.new.Goals as goal
 
-pub invariant-of-result : goal.invariant-of-result
-invariant-of-result c = (or-none, tt)
+pub invariant_of-result : goal.invariant_of-result
+invariant_of-result c = record { rows = or-none }

@@ -1,4 +1,4 @@
-use Rattle.std.proofs.Common.{◌≡◌, length, sym, ap, ◌∙◌, arith}
+use Rattle.std.proofs.Common.{length, sym, ap, ◌∙◌, arith}
 use Rattle.rules.proofs.Helds.{held-length}
 use Rattle.matchers.specs.Places.{held_places}
 use Rattle.shifts.proofs.shift_or_matcher.ShiftOrMatcher.scan.Goals as goal

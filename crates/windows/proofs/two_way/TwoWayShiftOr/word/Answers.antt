@@ -1,4 +1,4 @@
-use Rattle.std.proofs.Common.{◌≡◌, ℕ, ◌+◌, ◌-◌, ◌*◌, ◌%◌, ◌^◌, ◌<◌, ◌≤◌, true, ap, ◌∙◌, inl, inr, arith, rules}
+use Rattle.std.proofs.Common.{◌≡◌, ◌+◌, ◌-◌, ◌≤◌, true, ap, ◌∙◌, inl, inr, arith, rules}
 use Rattle.std.proofs.lemmas.Bool.{eqb-true}
 use Rattle.rules.specs.Terms.{occurs}
 use Rattle.matchers.specs.Places.{held_places}
@@ -7,7 +7,7 @@ use Rattle.matchers.proofs.Marking.{marked_below, marked-none}
 use Rattle.windows.proofs.Steps.{window-step, tested}
 use Rattle.windows.proofs.Centres.{Settled, settled-end, settled-full, decided-more, decided-all}
 use Rattle.windows.proofs.two_way.TwoWayShiftOr.word.Goals as goal
-use Rattle.windows.proofs.two_way.TwoWayShiftOr.word.Goals.{else-steps-test, then-steps-test+then-is-full}
+use Rattle.windows.proofs.two_way.TwoWayShiftOr.word.Goals.{else-steps-test, then-steps-test+then-is_full}
 
 pub windows-init : goal.windows-init
 windows-init c =
@@ -38,16 +38,16 @@ windows-preserved c =
     let lc : m ≤ at + 1 = c.windows.invariant.0 in
     let settled : Settled t text m at state = elim c.steps-test.branch [
       | else-steps-test w ↦ settled-end t text m at state size.some size.few size.is lc (let last : c.steps.j - 1 ≡ m - 1 = omega (arith, c.steps.auto.j-end size.some) in c.steps.invariant ∙ ap (window_state t text at) last)
-      | then-steps-test+then-is-full w ↦
+      | then-steps-test+then-is_full w ↦
           settled-full t text m at state size.some size.few size.is lc (c.steps.j - 1) (omega (arith, w.steps-test.true)) c.steps.invariant
-          (eqb-true _ _ (tested t m state true size.is w.if-is-full.ensures))
+          (eqb-true _ _ (tested t m state true size.is w.if-is_full.ensures))
     ] in (
       omega arith,
-      c.mark-window-word.ensures ∙ decided-more t text m at state size.some size.few size.is lc c.windows.word c.windows.invariant.1 settled ∙ ap (marked_below (occurs t text)) next,
+      c.mark_window-word.ensures ∙ decided-more t text m at state size.some size.few size.is lc c.windows.word c.windows.invariant.1 settled ∙ ap (marked_below (occurs t text)) next,
     )
 
-pub returns-else-c-m-le-LAST-START : goal.returns-else-c-m-le-LAST-START
-returns-else-c-m-le-LAST-START c =
+pub returns-else-c-m-le-LAST_START : goal.returns-else-c-m-le-LAST_START
+returns-else-c-m-le-LAST_START c =
     let size = c.requires.0 in
     c.windows.invariant.1 ∙ decided-all (held_places c.args.self.now.term) c.args.stretch.now c.args.m c.windows.c size.some size.is (inr (search rules)) c.windows.invariant.0
 

@@ -1,4 +1,4 @@
-use Rattle.std.proofs.Common.{◌≡◌, ◌-◌, cond, ltb, length, get_or, sym, ap, ◌∙◌, arith}
+use Rattle.std.proofs.Common.{◌-◌, cond, length, get_or, sym, ap, ◌∙◌}
 use Rattle.std.proofs.lemmas.Bool.{le-ltb}
 use Rattle.matchers.specs.Places.{held_places}
 use Rattle.windows.specs.Windows.{low_bit, two_way_row, full_word}
@@ -9,5 +9,5 @@ returns-else-p-stretch c =
     let t = held_places c.args.self.now.term in
     let text = c.args.stretch.now in
     let p = c.args.p in
-    c.full-word.ensures ∙ ap (λ m. full_word (64 - m)) c.requires.is
+    c.full_word.ensures ∙ ap (λ m. full_word (64 - m)) c.requires.is
     ∙ sym (ap (λ b. cond b (two_way_row t (get_or text p 0)) (full_word (low_bit t))) (le-ltb p (length text) c.if-p-stretch.false))
