@@ -1,6 +1,5 @@
 -- Pages opened one after the other, and a run to the end. Assumes nothing.
-use Rattle.std.proofs.Common.{◌≡◌, ℕ, zero, suc, ◌+◌, ◌-◌, ◌%◌, ◌^◌, ◌<◌, ◌≤◌, min, Bool, true, false, cond, eqb, List, [], ◌∷◌, ◌++◌, length, get_or, drop, Ok, Option, sym, refl, ap, ◌∙◌, subst, arith}
-use mathlib.Core.Path.{fun_ext}
+use Rattle.std.proofs.Common.{◌≡◌, ℕ, ◌+◌, ◌%◌, ◌<◌, ◌≤◌, min, Bool, true, false, cond, eqb, List, [], ◌∷◌, ◌++◌, length, get_or, drop, Ok, Option, sym, refl, ap, ◌∙◌, arith}
 use Rattle.std.proofs.lemmas.List.{at_drop_more, at_drop_all}
 use Rattle.rules.specs.Terms.{Term}
 use Rattle.rules.specs.Words.{count}
@@ -8,7 +7,6 @@ use Rattle.rules.proofs.Counts.{count_left, count_most}
 use Rattle.indexer.specs.declared.index.Indexer.{Indexer}
 use Rattle.indexer.specs.Machine.{Machine, Answer, owing, step, after_units}
 use Rattle.indexer.specs.Machine.Call.{page, run}
-use Rattle.indexer.specs.Machine.Answer.{said}
 use Rattle.indexer.specs.Called.{view, Sound, Called}
 use Rattle.book.specs.Pages.{behind_feeds}
 use Rattle.term_sheet.specs.Sheets.{sheet_reading}

@@ -1,6 +1,7 @@
 // Plays the edges: galleys of telling lengths, all sixteen terms, too many pages, sheets with every fault. What it prints is held to what the plain search in reference/ finds.
 #![tactic(auto)]
 
+use book::whole::open_pages;
 use galleys::byte::ByteGalley;
 use indexer::index::Indexer;
 use matchers::comparer::Comparer;
@@ -190,13 +191,14 @@ fn list(rt: &HostRuntime, book: &Book, number: usize, each: bool) -> anyhow::Res
     Ok(())
 }
 
-// Opens a page at every 60th place, as far as the book takes them.
-fn page_all(book: &mut Book) {
-    for i in 1..=300 {
-        if book.page(i * 60).is_err() {
-            break;
-        }
+// Opens a page at every 60th place, up to the 300th of them.
+fn page_all(heap: Global, book: &mut Book) -> Result<(), AllocError> {
+    let mut starts = Vec::new(heap);
+    for i in 1..=300usize {
+        starts.push(i * 60)?;
     }
+    open_pages(book, starts.as_slice());
+    Ok(())
 }
 
 // A galley of n bytes, indexed in runs of `step` units.
@@ -205,7 +207,7 @@ fn play(rt: &HostRuntime, n: usize, step: usize) -> anyhow::Result<()> {
     let text = make_text(rt.alloc(), n)?;
     let end = last_three(text.as_slice());
     let mut book = Indexer::new(Comparer::new(), ByteGalley::new(text), 1);
-    page_all(&mut book);
+    page_all(rt.alloc(), &mut book)?;
     enter_terms(rt, &mut book, &end)?;
     let (_, owed) = book.run(0);
     println!(rt; "owed {owed}")?;
@@ -226,7 +228,7 @@ fn page_too_many(rt: &HostRuntime) -> anyhow::Result<()> {
         ByteGalley::new(make_text(rt.alloc(), 16384)?),
         1,
     );
-    page_all(&mut book);
+    page_all(rt.alloc(), &mut book)?;
     told(rt, "page", 257, book.page(16383))?;
     told(rt, "page", 255, book.page(255 * 60))?;
     told(rt, "page", 273, book.page(16384))

@@ -1,5 +1,5 @@
 -- What shows that a call did what the machine does. Assumes nothing.
-use Rattle.std.proofs.Common.{◌≡◌, ℕ, ◌+◌, ◌*◌, ◌/◌, ◌%◌, ◌<◌, ◌≤◌, min, Bool, true, false, cond, ◌&&◌, eqb, ltb, leb, List, [], ◌∷◌, map, length, is_some, Some, None, Ok, Err, Option, Result, sym, refl, ap, ◌∙◌, subst, arith}
+use Rattle.std.proofs.Common.{◌≡◌, ℕ, ◌/◌, ◌%◌, ◌≤◌, Bool, true, false, cond, eqb, List, map, length, is_some, Some, None, Ok, Err, Option, Result, sym, refl, ap, ◌∙◌, subst, arith}
 use mathlib.Core.Path.{fun_ext}
 use Rattle.std.specs.Option.{option_map}
 use Rattle.rules.specs.declared.refusal.Refusal.{Refusal}
@@ -16,7 +16,7 @@ use Rattle.indexer.specs.declared.index.Indexer.{Indexer}
 use Rattle.indexer.specs.Machine.{Machine, Call, Answer, doing, answer, step, after_enter, after_withdraw, entering, withdrawing}
 use Rattle.indexer.specs.Machine.Call.{enter, withdraw}
 use Rattle.indexer.specs.Machine.Answer.{said}
-use Rattle.indexer.specs.Called.{view, Sound, Called}
+use Rattle.indexer.specs.Called.{view, Called}
 
 -- two machines that hold the same are the same
 pub same-machine : {x y : List ℕ} {p q : List ℕ} {s t : ℕ → Option Term} {o u : ℕ → Bool} → x ≡ y → p ≡ q → ((n : ℕ) → s n ≡ t n) → ((n : ℕ) → o n ≡ u n) →

@@ -1,5 +1,5 @@
 -- The first locator by the marks is the first by the rules. Assumes nothing.
-use Rattle.std.proofs.Common.{◌≡◌, ℕ, ◌+◌, ◌*◌, ◌/◌, ◌%◌, ◌<◌, ◌≤◌, min, Bool, true, false, cond, not, ◌&&◌, ltb, ◌⊎◌, List, length, Some, None, Ok, Err, Option, Result, sym, refl, ap, ◌∙◌, subst, inl, inr, ⊎_elim, arith}
+use Rattle.std.proofs.Common.{◌≡◌, ℕ, ◌+◌, ◌*◌, ◌/◌, ◌%◌, ◌<◌, ◌≤◌, min, Bool, true, false, cond, not, ◌&&◌, ltb, List, length, Some, None, Ok, Err, Option, Result, sym, refl, ap, ◌∙◌, ⊎_elim, arith}
 use Rattle.std.specs.Option.{option_map}
 use Rattle.std.proofs.lemmas.Bool.{cases_Bool, ltb-true, and_right, not_from_true}
 use Rattle.rules.specs.declared.refusal.Refusal.{Refusal}
@@ -10,13 +10,10 @@ use Rattle.rules.specs.Terms.{Term, occurs}
 use Rattle.ledger.specs.declared.book.Ledger.{Ledger}
 use Rattle.ledger.specs.Debts.{owes, owed}
 use Rattle.ledger.specs.Marks.{marked}
-use Rattle.ledger.specs.Terms.{standing}
 use Rattle.ledger.specs.Books.{first_from, listed as byMarks}
 use Rattle.ledger.proofs.Firsts.{first_from-same}
 use Rattle.indexer.specs.declared.index.Indexer.{Indexer}
-use Rattle.indexer.specs.Machine.{Machine}
 use Rattle.indexer.specs.Listed.{listed, locator_at, first_of, locating}
-use Rattle.indexer.specs.Sounds.{Right}
 use Rattle.indexer.specs.Called.{view, Sound, Located}
 use Rattle.indexer.proofs.Books.{none-some}
 

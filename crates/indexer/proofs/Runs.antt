@@ -1,6 +1,6 @@
 -- One unit more of a run. Assumes nothing.
-use Rattle.std.proofs.Common.{◌≡◌, ℕ, ◌+◌, ◌-◌, ◌*◌, ◌/◌, ◌%◌, ◌<◌, ◌≤◌, min, Bool, true, false, cond, ◌&&◌, eqb, leb, List, Option, sym, refl, ap, ◌∙◌, subst, ⊎_elim, arith}
-use Rattle.std.proofs.lemmas.Bool.{and_right, le-leb, both_ways}
+use Rattle.std.proofs.Common.{◌≡◌, ℕ, ◌+◌, ◌-◌, ◌%◌, ◌<◌, ◌≤◌, min, Bool, true, false, cond, ◌&&◌, eqb, leb, List, Option, sym, refl, ap, ◌∙◌, arith}
+use Rattle.std.proofs.lemmas.Bool.{le-leb, both_ways}
 use Rattle.rules.specs.Terms.{Term}
 use Rattle.rules.specs.Words.{count}
 use Rattle.rules.proofs.Counts.{left, next-left, next-within, next-count, next-passes, count_same, count_left, count-below, count-tells}
@@ -8,10 +8,10 @@ use Rattle.ledger.specs.Debts.{owed}
 use Rattle.ledger.specs.Pages.{page_starts}
 use Rattle.ledger.specs.Terms.{standing}
 use Rattle.indexer.specs.declared.index.Indexer.{Indexer}
-use Rattle.indexer.specs.Machine.{Machine, owing}
+use Rattle.indexer.specs.Machine.{owing}
 use Rattle.indexer.specs.Machine.Call.{run}
 use Rattle.indexer.specs.Machine.Answer.{did}
-use Rattle.indexer.specs.Called.{view, Sound, Called}
+use Rattle.indexer.specs.Called.{view, Called}
 use Rattle.indexer.specs.Works.{Did, Ran}
 use Rattle.indexer.proofs.Calls.{same-machine}
 

@@ -1,5 +1,5 @@
 -- What a look gives, by the stretch that it fetched. Assumes nothing.
-use Rattle.std.proofs.Common.{◌≡◌, ℕ, ◌+◌, ◌-◌, ◌<◌, ◌≤◌, ◌⊎◌, List, length, take, drop, Some, None, Option, sym, refl, ap, ◌∙◌, subst, inl, inr, ⊎_elim, arith, length-drop, length-take, MatchOption}
+use Rattle.std.proofs.Common.{◌≡◌, ℕ, ◌+◌, ◌-◌, ◌<◌, ◌≤◌, ◌⊎◌, List, length, take, drop, Some, Option, sym, ◌∙◌, subst, arith, length-drop, length-take, MatchOption}
 use Rattle.rules.specs.Words.{bit}
 use Rattle.rules.specs.Terms.{Term, occurs}
 use Rattle.rules.proofs.Words.{bit_is}

@@ -1,6 +1,5 @@
 -- What a look at a block gives. Assumes nothing.
-use Rattle.std.specs.Prelude.{◌≡◌, ℕ, ◌+◌, ◌*◌, ◌<◌, ◌≤◌, Bool, true, false, List, length, take, drop, Some, Option, MatchOption}
-use Rattle.std.specs.Option.{option_map}
+use Rattle.std.specs.Prelude.{◌≡◌, ℕ, ◌+◌, ◌*◌, ◌<◌, ◌≤◌, Bool, true, List, length, take, drop, Some, Option, MatchOption}
 use Rattle.rules.specs.Words.{bit}
 use Rattle.rules.specs.Terms.{Term, scanned, occurs}
 

@@ -1,5 +1,5 @@
 -- One entry more of a sheet. Assumes nothing.
-use Rattle.std.proofs.Common.{◌≡◌, ℕ, Bool, List, Some, None, Ok, Err, Option, Result, sym, refl, ap, ◌∙◌, subst, arith}
+use Rattle.std.proofs.Common.{◌≡◌, ℕ, Bool, List, Some, None, Ok, Err, Option, Result, sym, refl, ap, ◌∙◌, arith}
 use Rattle.rules.specs.declared.refusal.Refusal.{Refusal}
 use Rattle.rules.specs.Terms.{Term}
 use Rattle.indexer.specs.declared.index.Indexer.{Indexer}
@@ -7,7 +7,7 @@ use Rattle.indexer.specs.Machine.{Machine, entering, step, after_enter}
 use Rattle.indexer.specs.Machine.Call.{enter}
 use Rattle.indexer.specs.Called.{view, Sound}
 use Rattle.term_sheet.specs.declared.fault.Fault.{Fault}
-use Rattle.term_sheet.specs.Sheets.{SheetEntry, Reading, ends, gives, stops}
+use Rattle.term_sheet.specs.Sheets.{SheetEntry, Reading, gives}
 use Rattle.term_sheet.specs.Entered.{first_fault, entry_fault, entered_all, entry_after, Entered, EntryEntered}
 
 -- i has become j by the entries so far, and `ahead` is left to enter of the reading

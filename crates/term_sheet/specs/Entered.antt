@@ -8,7 +8,7 @@ use Rattle.indexer.specs.Machine.Call.{enter}
 use Rattle.indexer.specs.Called.{view, Sound}
 use Rattle.term_sheet.specs.declared.fault.Fault.{Fault}
 use Rattle.term_sheet.specs.declared.fault.Fault.TheVariants.{Indexer as Refused}
-use Rattle.term_sheet.specs.Sheets.{SheetEntry, Reading, ends, gives, stops, sheet_reading}
+use Rattle.term_sheet.specs.Sheets.{SheetEntry, Reading, ends, gives, stops}
 
 -- the entry's refusal by the indexer, which the line's first byte names, else what comes next
 abbrev pub entry_fault : SheetEntry → Option Refusal → Result (Unit {0}) Fault → Result (Unit {0}) Fault

@@ -1,4 +1,4 @@
-use Rattle.std.proofs.Common.{◌≡◌, map, length, take}
+use Rattle.std.proofs.Common.{◌≡◌, map, take}
 use Rattle.indexer.proofs.shown.hold_shown.Given as goal
 
 abbrev pub invariant-loop-i : goal.invariant-loop-i

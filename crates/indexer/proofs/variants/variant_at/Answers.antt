@@ -1,5 +1,4 @@
-use Rattle.std.proofs.Common.{◌≡◌, length, ap, arith, length-take}
-use Rattle.rules.specs.Held.{term_of}
+use Rattle.std.proofs.Common.{length, ap, arith, length-take}
 use Rattle.indexer.proofs.variants.variant_at.Goals as goal
 
 pub slice_bounds-buffer-end : goal.slice_bounds-buffer-end

@@ -9,17 +9,17 @@ returns c = record {
   value = record {
     overlapping = refl;
     exact = refl;
-    first-letter = refl;
-    two-letters = refl;
+    first_letter = refl;
+    two_letters = refl;
     cut_off = refl;
     nothing = refl;
-    all-starts = refl;
+    all_starts = refl;
     too_long = refl;
     one_byte = refl;
     longest = refl;
-    longest-folded = refl;
-    over-long = refl;
-    over-long-folded = refl;
-    longest-term = refl;
+    longest_folded = refl;
+    over_long = refl;
+    over_long_folded = refl;
+    longest_term = refl;
   };
 }

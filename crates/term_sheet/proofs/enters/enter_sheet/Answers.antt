@@ -1,6 +1,5 @@
-use Rattle.std.proofs.Common.{◌≡◌, Some, Ok, Err, Result, sym, ap, ◌∙◌, subst}
+use Rattle.std.proofs.Common.{Some, Ok, Err, Result, sym, ap, ◌∙◌, subst}
 use Rattle.std.proofs.lemmas.Result.{err_from_is_err_and}
-use Rattle.rules.specs.declared.refusal.Refusal.{Refusal}
 use Rattle.term_sheet.specs.declared.fault.Fault.{Fault}
 use Rattle.term_sheet.specs.Readers.{ahead, Next}
 use Rattle.term_sheet.specs.Entries.{entry_of}

@@ -7,15 +7,15 @@ pub returns : goal.returns
 unfolding before behind number_behind field_value lines reading
 returns c = record {
   value = record {
-    fault-in-second-line = refl;
+    fault_in_second_line = refl;
     empty_lines = refl;
     no_lines = refl;
-    empty-term = refl;
+    empty_term = refl;
     spaces = refl;
-    number-alone = refl;
-    empty-limit = refl;
-    limit-alone = refl;
-    four-digits = refl;
-    empty-number = refl;
+    number_alone = refl;
+    empty_limit = refl;
+    limit_alone = refl;
+    four_digits = refl;
+    empty_number = refl;
   };
 }

@@ -1,4 +1,4 @@
-use Rattle.std.proofs.Common.{◌≡◌, true, false, length, None, sym, refl}
+use Rattle.std.proofs.Common.{true, false, length, None, sym, refl}
 use Rattle.std.proofs.lemmas.Result.{err_from_is_err_and}
 use Rattle.rules.specs.declared.refusal.Refusal.TheVariants.{TermStands, TermUnfit}
 use Rattle.rules.specs.Held.{term_of}

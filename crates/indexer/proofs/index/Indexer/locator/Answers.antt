@@ -1,8 +1,6 @@
-use Rattle.std.proofs.Common.{◌≡◌, ℕ, min, length, Some, None, Option, sym, refl, ap, ◌∙◌}
+use Rattle.std.proofs.Common.{◌≡◌, min, Some, None, sym, ap, ◌∙◌}
 use Rattle.std.specs.Option.{option_map}
 use Rattle.rules.specs.Held.{term_of}
-use Rattle.rules.specs.Terms.{variant_at}
-use Rattle.ledger.specs.Pages.{page_starts, page_at, place_at}
 use Rattle.ledger.specs.Books.{first_from, listed as byMarks}
 use Rattle.indexer.specs.Listed.{locator_at}
 use Rattle.indexer.specs.Called.{view}

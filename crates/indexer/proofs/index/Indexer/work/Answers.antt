@@ -1,9 +1,6 @@
-use Rattle.std.proofs.Common.{◌≡◌, ℕ, Option, sym, refl, ap, ◌∙◌, subst}
+use Rattle.std.proofs.Common.{refl, ◌∙◌}
 use Rattle.std.specs.Option.{option_map}
 use Rattle.rules.specs.Held.{term_of}
-use Rattle.rules.specs.Terms.{Term}
-use Rattle.ledger.specs.Terms.{standing}
-use Rattle.indexer.specs.Looks.{Looked}
 use Rattle.indexer.proofs.Works.{settled-owed, settled-right, done-holds}
 use Rattle.indexer.proofs.index.Indexer.work.Goals as goal
 

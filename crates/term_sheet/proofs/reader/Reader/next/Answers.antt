@@ -24,7 +24,7 @@ invariant_of-self c =
     let self = c.args.self.now in
     let n = next-within self.sheet.now (self.at + c.empty_lines-empty.result) c.if-at-sheet.false in
     let e = c.line_at-next.ensures.after in
-    (omega arith, (omega arith, tt))
+    record { within = omega arith; counted = omega arith }
 
 pub returns : goal.returns
 returns c =
