@@ -1,7 +1,6 @@
 // Indexes the book in the current folder: galley.txt, with the terms of terms.txt.
 #![tactic(auto)]
 
-use anyhow::anyhow;
 use book::feeds::page_starts;
 use book::whole::index_book;
 use galleys::byte::ByteGalley;
@@ -11,6 +10,7 @@ use rules::locator::Locator;
 use std::fs::File;
 use std::io;
 use std::io::Read;
+use std::process::ExitCode;
 
 // A locator and the number of its term.
 #[derive(Clone, Copy)]
@@ -26,13 +26,13 @@ fn read_front(rt: &HostRuntime, path: &str, most: u64) -> io::Result<Vec<u8>> {
     Ok(bytes)
 }
 
-// The same; a file that cannot be read is named on standard error.
-fn read_named(rt: &HostRuntime, path: &str, most: u64) -> anyhow::Result<Vec<u8>> {
+// The same; none where the file cannot be read, which is said on standard error.
+fn read_named(rt: &HostRuntime, path: &str, most: u64) -> anyhow::Result<Option<Vec<u8>>> {
     match read_front(rt, path, most) {
-        Ok(bytes) => Ok(bytes),
+        Ok(bytes) => Ok(Some(bytes)),
         Err(error) => {
             eprintln!(rt; "bookindex: cannot read {path}: {error}")?;
-            Err(error.into())
+            Ok(None)
         }
     }
 }
@@ -85,16 +85,24 @@ fn print_index(
     Ok(())
 }
 
-fn main(rt: HostRuntime) -> anyhow::Result<()> {
-    let text = read_named(&rt, "galley.txt", 16384)?;
-    let sheet = read_named(&rt, "terms.txt", 8192)?;
+// Ends with status 1 where a file cannot be read or the sheet is refused.
+fn main(rt: HostRuntime) -> anyhow::Result<ExitCode> {
+    let Some(text) = read_named(&rt, "galley.txt", 16384)? else {
+        return Ok(ExitCode::FAILURE);
+    };
+    let Some(sheet) = read_named(&rt, "terms.txt", 8192)? else {
+        return Ok(ExitCode::FAILURE);
+    };
     let starts = page_starts(rt.alloc(), text.as_slice())?;
     let mut indexer = Indexer::new(Comparer::new(), ByteGalley::new(text), 1);
     match index_book(&mut indexer, starts.as_slice(), sheet.as_slice()) {
-        Ok(()) => print_index(&rt, &mut indexer),
+        Ok(()) => {
+            print_index(&rt, &mut indexer)?;
+            Ok(ExitCode::SUCCESS)
+        }
         Err(fault) => {
             println!(rt; "{fault}")?;
-            Err(anyhow!("the term sheet was refused"))
+            Ok(ExitCode::FAILURE)
         }
     }
 }

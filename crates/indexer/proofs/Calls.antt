@@ -8,13 +8,13 @@ use Rattle.rules.specs.Refusals.{answer_of, in_order, numbering, malformed}
 use Rattle.rules.specs.Terms.{Term}
 use Rattle.ledger.specs.declared.book.Ledger.{Ledger}
 use Rattle.ledger.specs.Pages.{page_starts}
-use Rattle.ledger.specs.Books.{Entered, Withdrawn}
+use Rattle.ledger.specs.Books.{Entered}
 use Rattle.std.proofs.lemmas.List.{length-map}
 use Rattle.std.proofs.lemmas.Bool.{both_ways}
-use Rattle.indexer.proofs.Books.{entered-owes, entered-right, withdrawn-right}
+use Rattle.indexer.proofs.Books.{entered-owes, entered-right}
 use Rattle.indexer.specs.declared.index.Indexer.{Indexer}
-use Rattle.indexer.specs.Machine.{Machine, Call, Answer, doing, answer, step, after_enter, after_withdraw, entering, withdrawing}
-use Rattle.indexer.specs.Machine.Call.{enter, withdraw}
+use Rattle.indexer.specs.Machine.{Machine, Call, Answer, doing, answer, step, after_enter, entering}
+use Rattle.indexer.specs.Machine.Call.{enter}
 use Rattle.indexer.specs.Machine.Answer.{said}
 use Rattle.indexer.specs.Called.{view, Called}
 
@@ -92,25 +92,6 @@ module _ {M G : Type 0} (held : M → Option Term) (fit : M → ℕ → ℕ → 
       same = λ no. absurd (both_ways false refl no);
       sound = λ right. entered-right (fit i.matcher) (text i.galley) i.ledger l number t short entered free
           (let m : length t.bytes ≡ length term = ap (λ (u : Term). length u.bytes) is ∙ length-map term shows in let q : t.limit ≡ k = ap (λ (u : Term). u.limit) is in cc) right;
-    }
-
-  module _ (number : ℕ) where
-    pub withdraw-refused : (e : Refusal) (r : Result (Unit {0}) Refusal) → r ≡ Err e → withdrawing (view text i) number ≡ Some e → Called held fit text shows i (withdraw number) (said r) i
-    withdraw-refused e r is why = unchanged (withdraw number) (said r) refl (ap said is ∙ sym (ap (λ o. said (answer_of o)) why)) (ap (λ o. after_withdraw (view text i) number o) why)
-
-    -- the term is gone, and so are its units
-    pub withdraw-called : (l : Ledger) → withdrawing (view text i) number ≡ None → length (text i.galley) ≤ 16384 → Withdrawn i.ledger number l →
-        Called held fit text shows i (withdraw number) (said (Ok tt)) (record { matcher = i.matcher; galley = i.galley; job = i.job; ledger = l })
-    withdraw-called l why short withdrawn = record {
-      answers = sym (ap (λ o. said (answer_of o)) why);
-      follows = same-machine refl (ap page_starts withdrawn.pages) withdrawn.terms (λ x. withdrawn.debts (x % 16) (x / 16)) ∙ sym (ap (λ o. after_withdraw (view text i) number o) why);
-      job = refl;
-      galley = refl;
-      fits = λ m q. refl;
-      matcher = λ _. refl;
-      holds = λ sound x owed last. absurd (let z : ◌≡◌ {A = ℕ} 0 1 = omega arith in omega arith);
-      same = λ no. absurd (both_ways false refl no);
-      sound = withdrawn-right (fit i.matcher) (text i.galley) i.ledger l number short withdrawn;
     }
 
 -- a term as the galley shows it has the same length

@@ -4,3 +4,4 @@ pub mod Books
 pub mod Locates
 pub mod Works
 pub mod Runs
+pub mod Withdrawing

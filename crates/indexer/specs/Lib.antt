@@ -4,3 +4,4 @@ pub mod Looks
 pub mod Sounds
 pub mod Called
 pub mod Works
+pub mod Withdrawals

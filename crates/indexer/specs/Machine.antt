@@ -1,7 +1,7 @@
 -- The rules of an indexer, as a machine: what it holds, and what each call answers and changes. Assumes nothing.
 use Rattle.std.specs.Prelude.{ℕ, ◌-◌, ◌*◌, ◌/◌, ◌%◌, min, Bool, true, false, cond, ◌&&◌, List, [], ◌∷◌, ◌++◌, map, length, is_some, Some, None, Ok, Err, Option, Result, ◌==◌, nat_le, nat_lt}
 use Rattle.rules.specs.declared.refusal.Refusal.{Refusal}
-use Rattle.rules.specs.declared.refusal.Refusal.TheVariants.{TermStands, NoTermStands, TermUnfit, PastText}
+use Rattle.rules.specs.declared.refusal.Refusal.TheVariants.{TermStands, TermUnfit, PastText}
 use Rattle.rules.specs.Refusals.{answer_of, in_order, numbering, malformed}
 use Rattle.rules.specs.Terms.{Term}
 use Rattle.rules.specs.Words.{count}
@@ -24,7 +24,6 @@ start text = record { text = text; pages = 0 ∷ []; stands = λ n. None; owed =
 pub data Call : Type 0 where
   page : ℕ → Call
   enter : ℕ → ℕ → List ℕ → Call
-  withdraw : ℕ → Call
   run : ℕ → Call
 
 -- what a call answers: nothing or a refusal, or the units done and the units still owed
@@ -46,10 +45,6 @@ entering fit m number k term =
     in_order (numbering number) (in_order (malformed (length term) k)
     (in_order (cond (is_some (m.stands number)) (Some TermStands) None) (cond (fit (length term) k) None (Some TermUnfit))))
 
--- why a term is not withdrawn: its number, and that none stands there
-abbrev pub withdrawing : Machine → ℕ → Option Refusal
-withdrawing m number = in_order (numbering number) (cond (is_some (m.stands number)) None (Some NoTermStands))
-
 abbrev pub after_page : Machine → ℕ → Option Refusal → Machine
 after_page m at (Some e) = m
 after_page m at None = record { text = m.text; pages = m.pages ++ at ∷ []; stands = m.stands; owed = m.owed }
@@ -64,16 +59,6 @@ after_enter shows m number k term None = record {
   owed = λ x. cond (x % 16 == number && nat_lt (64 * (x / 16)) (length m.text)) true (m.owed x);
 }
 
--- the term and its units, of the 256 blocks, are gone
-abbrev pub after_withdraw : Machine → ℕ → Option Refusal → Machine
-after_withdraw m number (Some e) = m
-after_withdraw m number None = record {
-  text = m.text;
-  pages = m.pages;
-  stands = λ n. cond (n == number) None (m.stands n);
-  owed = λ x. cond (x % 16 == number && nat_lt (x / 16) 256) false (m.owed x);
-}
-
 -- the first d of the owed units are done: a unit stays owed exactly when at least d owed units stand before it
 abbrev pub after_units : Machine → ℕ → Machine
 after_units m d = record { text = m.text; pages = m.pages; stands = m.stands; owed = λ x. m.owed x && nat_le d (count m.owed x) }
@@ -82,20 +67,17 @@ after_units m d = record { text = m.text; pages = m.pages; stands = m.stands; ow
 abbrev pub doing : Machine → Call → ℕ
 doing m (page at) = 0
 doing m (enter number k term) = 0
-doing m (withdraw number) = 0
 doing m (run u) = min u (owing m)
 
 abbrev pub answer : (ℕ → ℕ → Bool) → Machine → Call → Answer
 answer fit m (page at) = said (answer_of (paging m at))
 answer fit m (enter number k term) = said (answer_of (entering fit m number k term))
-answer fit m (withdraw number) = said (answer_of (withdrawing m number))
 answer fit m (run u) = did (min u (owing m)) (owing m - min u (owing m))
 
 -- the machine after a call; a refused call leaves it as it was
 abbrev pub step : (ℕ → ℕ → Bool) → (ℕ → ℕ) → Machine → Call → Machine
 step fit shows m (page at) = after_page m at (paging m at)
 step fit shows m (enter number k term) = after_enter shows m number k term (entering fit m number k term)
-step fit shows m (withdraw number) = after_withdraw m number (withdrawing m number)
 step fit shows m (run u) = after_units m (min u (owing m))
 
 abbrev pub refused : Answer → Bool

@@ -1,7 +1,5 @@
 // Withdrawing terms.
-ghost use Rattle.indexer.specs.Called.{Called};
-ghost use Rattle.indexer.specs.Machine.Call.{withdraw};
-ghost use Rattle.indexer.specs.Machine.Answer.{said};
+ghost use Rattle.indexer.specs.Withdrawals.{Withdrew};
 
 use super::index::Indexer;
 use galleys::galley::Galley;
@@ -12,7 +10,7 @@ use rules::refusal::Refusal;
 impl<M: Matcher, G: Galley> Indexer<M, G> {
     // The term under the number and its units are gone.
     pub fn withdraw(&mut self, number: usize) -> Result<(), Refusal>
-        ensures called { Called M.Matcher.held M.Matcher.fit G.Galley.text G.Galley.shows self.old (withdraw number) (said result) self.new }
+        ensures withdrew { Withdrew M.Matcher.fit G.Galley.text self.old number result self.new }
     {
         let number = TermNumber::new(number)?;
         if self.ledger.terms.term(number).is_none() {
