@@ -16,7 +16,7 @@ fn same_bytes(a: &[u8], b: &[u8]) -> bool
 // Whether the text's bytes from `start` on, fetched into the buffer, are these.
 fn stands_at<G: Galley>(galley: &G, bytes: &[u8], start: usize, buffer: &mut [u8]) -> bool
     requires { length buffer.old ≡ length bytes.now }
-    ensures value { result ≡ occurs (record { bytes = bytes.entry.now; limit = 0 }) (G.Galley.text galley.now) start }
+    ensures value { result ≡ occurs (record { bytes = bytes.now; limit = 0 }) (G.Galley.text galley.now) start }
 {
     let Ok(()) = galley.fetch(start, buffer) else {
         return false;

@@ -5,8 +5,8 @@ use Rattle.std.specs.Option.{option_map}
 use Rattle.rules.specs.declared.refusal.Refusal.TheVariants.{StretchTooLong, NoTermHeld}
 use Rattle.rules.specs.declared.held.HeldTerm.{HeldTerm}
 use Rattle.rules.specs.Held.{term_of}
-use Rattle.rules.specs.Terms.{Term}
-use Rattle.matchers.specs.Matchers.{of_stretch}
+use Rattle.rules.specs.Terms.{Term, scanned}
+use Rattle.matchers.specs.Matchers.{of_stretch, scanning}
 use Rattle.matchers.specs.Places.{held_places}
 
 module _ {A : Type 0} (f : Term → List ℕ → A) (o : Option Term) (stretch : List ℕ) where
@@ -23,3 +23,14 @@ module _ {A : Type 0} (f : Term → List ℕ → A) (o : Option Term) (stretch :
 -- what was worked out for the held term's places
 pub answer-held : {A : Type 0} (f : Term → List ℕ → A) (o : Option HeldTerm) (h : HeldTerm) (stretch : List ℕ) (x : A) → o ≡ Some h → length stretch ≤ 127 → x ≡ f (held_places o) stretch → Ok x ≡ of_stretch f (option_map term_of o) stretch
 answer-held f o h stretch x is short e = answer-given f (option_map term_of o) stretch (term_of h) (ap (option_map term_of) is) x short (e ∙ ap (λ y. f (held_places y) stretch) is)
+
+-- the same of a scan
+pub scan-unheld : (o : Option Term) (stretch : List ℕ) → o ≡ None → Err NoTermHeld ≡ scanning o stretch
+scan-unheld o stretch none = answer-unheld scanned o stretch none
+
+module _ (o : Option Term) (t : Term) (stretch : List ℕ) (holds : o ≡ Some t) where
+  pub scan-long : 127 < length stretch → Err StretchTooLong ≡ scanning o stretch
+  scan-long h = answer-long scanned o stretch t holds h
+
+  pub scan-word : (word : ℕ) → length stretch ≤ 127 → word ≡ scanned t stretch → Ok word ≡ scanning o stretch
+  scan-word word h e = answer-given scanned o stretch t holds word h e

@@ -1,5 +1,5 @@
 -- The two-way matcher: windows that are read from their centre both ways. Words have 64 bits, of which the m highest, from d = 64 - m up, are the term's places. Assumes nothing.
-use Rattle.std.specs.Prelude.{ℕ, zero, suc, ◌+◌, ◌-◌, ◌*◌, ◌/◌, ◌%◌, ◌^◌, Bool, cond, not, ◌&&◌, ◌||◌, leb, List, length, Some, None, Option, ◌==◌, bit_and, bit_or, nat_le, nat_lt, slice_index}
+use Rattle.std.specs.Prelude.{ℕ, zero, suc, ◌+◌, ◌-◌, ◌*◌, ◌/◌, ◌%◌, ◌^◌, Bool, cond, not, ◌&&◌, ◌||◌, List, length, Some, None, Option, ◌==◌, bit_and, bit_or, nat_le, nat_lt, slice_index}
 use Rattle.rules.specs.Words.{word_of, bit, all}
 use Rattle.rules.specs.Terms.{Term}
 use Rattle.matchers.specs.Places.{clear_row}
@@ -14,7 +14,7 @@ two_way_row t b = clear_row t (low_bit t) b
 
 -- the word with every one of the m bits set
 abbrev pub full_word : ℕ → ℕ
-full_word d = word_of (λ i. leb d i) 64
+full_word d = word_of (λ i. nat_le d i) 64
 
 -- the word at the place p: the table's for the text's byte there, and past the text all m bits set
 abbrev pub word_at : Term → List ℕ → ℕ → ℕ
