@@ -2,4 +2,4 @@ pub mod Galleys
 pub mod Byte
 pub mod Packing
 pub mod SixBit
-pub mod Codes
+pub mod SixBitTexts

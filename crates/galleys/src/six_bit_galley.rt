@@ -3,7 +3,7 @@ ghost use Rattle.std.specs.Prelude.{◌≡◌, ◌+◌, ◌-◌, ◌≤◌, true
 ghost use Rattle.galleys.specs.Galleys.{Put};
 ghost use Rattle.galleys.specs.Packing.{Recoded, code_text, six_length};
 ghost use Rattle.galleys.specs.SixBit.{six_shown, six_text};
-ghost use Rattle.galleys.specs.Codes.{six-texts};
+ghost use Rattle.galleys.specs.SixBitTexts.{six-texts};
 ghost use Rattle.std.proofs.Common.{rules};
 
 use super::galley::Galley;

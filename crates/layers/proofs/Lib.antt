@@ -1,1 +1,3 @@
 pub mod Fetches
+pub mod Folds
+pub mod Overlays

@@ -1,4 +1,4 @@
 pub mod Folded
 pub mod Pasted
-pub mod Folds
-pub mod Overlays
+pub mod FoldedTexts
+pub mod PastedTexts

@@ -3,7 +3,7 @@ ghost use Rattle.std.specs.Prelude.{◌≡◌, map};
 ghost use Rattle.rules.specs.Terms.{folded};
 ghost use Rattle.galleys.specs.Galleys.{Put};
 ghost use Rattle.layers.specs.Folded.{folded_text, folded_shown};
-ghost use Rattle.layers.specs.Folds.{folded-showing, folded-text};
+ghost use Rattle.layers.specs.FoldedTexts.{folded-showing, folded-text};
 
 use super::folded::FoldedGalley;
 use galleys::galley::Galley;

@@ -2,7 +2,7 @@
 ghost use Rattle.std.specs.Prelude.{◌≡◌, ℕ, ◌+◌, ◌≤◌, true, List, [], length, is_ok};
 ghost use Rattle.galleys.specs.Galleys.{Put};
 ghost use Rattle.layers.specs.Pasted.{Laid, Pasting, over, paste_list};
-ghost use Rattle.layers.specs.Overlays.{over-text};
+ghost use Rattle.layers.specs.PastedTexts.{over-text};
 ghost use Rattle.std.proofs.Common.{rules};
 
 use super::paste::Paste;

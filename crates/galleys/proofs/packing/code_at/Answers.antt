@@ -1,6 +1,6 @@
 use Rattle.std.proofs.Common.{◌/◌, ◌%◌, arith}
 use Rattle.galleys.specs.Packing.{group}
-use Rattle.galleys.specs.Codes.{code-shifted}
+use Rattle.galleys.proofs.Codes.{code-shifted}
 use Rattle.galleys.proofs.packing.code_at.Goals as goal
 
 pub returns : goal.returns

@@ -1,6 +1,6 @@
 use Rattle.std.proofs.Common.{◌≡◌, ℕ, ◌/◌, ◌%◌, ◌<◌, ap, ◌∙◌, subst}
 use Rattle.galleys.specs.Packing.{group, recoded_group}
-use Rattle.galleys.specs.Codes.{recoded-written}
+use Rattle.galleys.proofs.Codes.{recoded-written}
 use Rattle.galleys.proofs.packing.recode.Goals as goal
 
 pub returns : goal.returns

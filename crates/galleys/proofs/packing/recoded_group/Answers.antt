@@ -1,5 +1,5 @@
 use Rattle.std.proofs.Common.{ℕ, ◌<◌, sym, subst, rules}
-use Rattle.galleys.specs.Codes.{shifts, recoded-below}
+use Rattle.galleys.proofs.Codes.{shifts, recoded-below}
 use Rattle.galleys.proofs.packing.recoded_group.Goals as goal
 
 pub overflow_sub-result : goal.overflow_sub-result

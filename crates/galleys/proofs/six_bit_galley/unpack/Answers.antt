@@ -1,7 +1,7 @@
 use Rattle.std.proofs.Common.{◌≡◌, ℕ, ◌+◌, length, get_or, set, ap, ◌∙◌, arith}
 use Rattle.std.proofs.lemmas.List.Edits.{fill_by_more}
 use Rattle.galleys.specs.Packing.{code_at, code_text}
-use Rattle.galleys.specs.Codes.{text-filled}
+use Rattle.galleys.proofs.Codes.{text-filled}
 use Rattle.galleys.proofs.six_bit_galley.unpack.Goals as goal
 
 pub loop-i-preserved : goal.loop-i-preserved

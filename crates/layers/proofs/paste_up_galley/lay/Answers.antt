@@ -1,6 +1,6 @@
 use Rattle.std.proofs.Common.{length, take, drop, ap, ◌∙◌, arith, length-take}
 use Rattle.layers.specs.Pasted.{paste_list}
-use Rattle.layers.specs.Overlays.{over_none, laid_in, laid-before, laid-behind}
+use Rattle.layers.proofs.Overlays.{over_none, laid_in, laid-before, laid-behind}
 use Rattle.layers.proofs.paste_up_galley.lay.Goals as goal
 use Rattle.layers.proofs.paste_up_galley.lay.Goals.{else-at-place-via-then-at-place+else-place-at, else-at-place-via-else-at-place}
 

@@ -1,6 +1,6 @@
 use Rattle.std.proofs.Common.{◌∙◌, arith, length-take}
 use Rattle.layers.specs.Pasted.{paste_list}
-use Rattle.layers.specs.Overlays.{over_none, put-more}
+use Rattle.layers.proofs.Overlays.{over_none, put-more}
 use Rattle.layers.proofs.paste_up_galley.put_all.Goals as goal
 
 pub loop-i-init : goal.loop-i-init

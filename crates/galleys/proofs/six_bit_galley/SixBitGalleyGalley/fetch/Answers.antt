@@ -2,7 +2,7 @@ use Rattle.std.proofs.Common.{◌≡◌, length, vec_items, ap, ◌∙◌, arith
 use Rattle.galleys.specs.Packing.{six_length, code_text}
 use Rattle.galleys.specs.SixBit.{six_text}
 use Rattle.galleys.proofs.Calls.{fetched-all}
-use Rattle.galleys.specs.Codes.{length-text, text-part}
+use Rattle.galleys.proofs.Codes.{length-text, text-part}
 use Rattle.galleys.proofs.six_bit_galley.SixBitGalleyGalley.fetch.Goals as goal
 
 pub unpack-requires : goal.unpack-requires

@@ -1,6 +1,6 @@
 use Rattle.std.proofs.Common.{vec_items, arith}
 use Rattle.galleys.specs.Packing.{six_length}
-use Rattle.galleys.specs.Codes.{length-text}
+use Rattle.galleys.proofs.Codes.{length-text}
 use Rattle.galleys.proofs.six_bit_galley.SixBitGalleyGalley.length.Goals as goal
 
 pub returns : goal.returns

@@ -5,7 +5,7 @@ use Rattle.std.proofs.lemmas.Bool.{both_ways}
 use Rattle.galleys.specs.Packing.{six_length, Recoded}
 use Rattle.galleys.specs.SixBit.{six_text, six_shown}
 use Rattle.galleys.proofs.Calls.{put_one, put-none}
-use Rattle.galleys.specs.Codes.{length-text, shown-coded, text-recoded}
+use Rattle.galleys.proofs.Codes.{length-text, shown-coded, text-recoded}
 use Rattle.galleys.proofs.six_bit_galley.SixBitGalleyGalley.put.Goals as goal
 
 pub returns-then-at-length : goal.returns-then-at-length

@@ -1,6 +1,6 @@
 use Rattle.std.proofs.Common.{ap}
 use Rattle.layers.specs.declared.folded.FoldedGalley.{FoldedGalley}
-use Rattle.layers.specs.Folds.{folded-put}
+use Rattle.layers.proofs.Folds.{folded-put}
 use Rattle.layers.proofs.folded_galley.FoldedGalleyGalley.put.Goals as goal
 
 pub returns : goal.returns

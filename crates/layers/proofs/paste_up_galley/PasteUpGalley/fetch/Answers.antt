@@ -3,7 +3,7 @@ use Rattle.std.proofs.lemmas.Result.{err_from_is_err_and}
 use Rattle.galleys.proofs.Calls.{fetched-within}
 use Rattle.layers.specs.Pasted.{over, paste_list}
 use Rattle.layers.proofs.Fetches.{fetched-through, refused-through}
-use Rattle.layers.specs.Overlays.{length_over}
+use Rattle.layers.specs.PastedTexts.{length_over}
 use Rattle.layers.proofs.paste_up_galley.PasteUpGalley.fetch.Goals as goal
 
 pub returns-in_err-fetch : goal.returns-in_err-fetch

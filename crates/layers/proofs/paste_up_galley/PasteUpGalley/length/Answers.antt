@@ -1,6 +1,6 @@
 use Rattle.std.proofs.Common.{sym, ◌∙◌}
 use Rattle.layers.specs.Pasted.{paste_list}
-use Rattle.layers.specs.Overlays.{length_over}
+use Rattle.layers.specs.PastedTexts.{length_over}
 use Rattle.layers.proofs.paste_up_galley.PasteUpGalley.length.Goals as goal
 
 pub returns : goal.returns

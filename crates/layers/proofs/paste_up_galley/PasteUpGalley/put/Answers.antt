@@ -3,7 +3,8 @@ use Rattle.std.proofs.lemmas.Bool.{both_ways, cond-true, cond-false}
 use Rattle.galleys.proofs.Calls.{put_one, put-none}
 use Rattle.layers.specs.declared.paste_up.PasteUp.{PasteUp}
 use Rattle.layers.specs.Pasted.{Pasting, is_full, over, paste_in, paste_list}
-use Rattle.layers.specs.Overlays.{length_over, pasting-text}
+use Rattle.layers.specs.PastedTexts.{length_over}
+use Rattle.layers.proofs.Overlays.{pasting-text}
 use Rattle.layers.proofs.paste_up_galley.PasteUpGalley.put.Goals as goal
 use Rattle.layers.proofs.paste_up_galley.PasteUpGalley.put.Goals.{then-is_full, else-is_full}
 

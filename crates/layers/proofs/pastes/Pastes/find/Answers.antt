@@ -1,6 +1,6 @@
 use Rattle.std.proofs.Common.{◌≡◌, ◌∙◌, arith, length-take}
 use Rattle.layers.specs.Pasted.{paste_list}
-use Rattle.layers.specs.Overlays.{stored_here, stored_more, first-all}
+use Rattle.layers.proofs.Overlays.{stored_here, stored_more, first-all}
 use Rattle.layers.proofs.pastes.Pastes.find.Goals as goal
 
 pub returns-then-self-i : goal.returns-then-self-i

@@ -2,7 +2,7 @@ use Rattle.std.proofs.Common.{◌≡◌, ℕ, ◌<◌, take, set, sym, ap, ◌�
 use Rattle.std.proofs.lemmas.Bool.{eqb-false}
 use Rattle.layers.specs.Pasted.{first_at, paste_list}
 use Rattle.layers.specs.declared.pastes.Pastes.{Pastes}
-use Rattle.layers.specs.Overlays.{first-le, paste-stored}
+use Rattle.layers.proofs.Overlays.{first-le, paste-stored}
 use Rattle.layers.proofs.pastes.Pastes.paste.Goals as goal
 
 -- there is room where it is not full

@@ -5,13 +5,8 @@ use Rattle.std.proofs.lemmas.List.FromFn.{length-map-range_with_len, get_or-map-
 use Rattle.std.proofs.lemmas.List.{get_or-set_same, get_or-set_other, get_or-take, get_or-drop, ext_get_or}
 use Rattle.std.proofs.lemmas.Bool.{cases_eq, eq-eqb, ne_eqb}
 use Rattle.std.proofs.lemmas.Bool.Decides.{nat_tests}
-use Rattle.galleys.specs.Galleys.{Text}
 use Rattle.galleys.specs.SixBit.{six_shown}
 use Rattle.galleys.specs.Packing.{group, code_in, recoded_group, code_at, characters, six_length, code_text, Recoded}
-
-pub code_below : (v r : ℕ) → code_in v r < 64
-unfolding code_in
-code_below v r = omega arith
 
 -- the code as it is read by a shift
 pub code-shifted : (v g r : ℕ) → v ≡ g → v / 2 ^ (18 - 6 * r) % 64 ≡ code_in g r
@@ -173,19 +168,3 @@ text-filled buffer at xs h =
 -- what is shown has a code
 pub shown-coded : (b : ℕ) → (32 ≤ six_shown b) × (six_shown b < 96)
 shown-coded b = (grind (arith, nat_tests), grind (arith, nat_tests))
-
--- a text is short, and each character shows as itself
-pub six-texts : (buffer : List ℕ) → Text six_shown (code_text buffer 0 (six_length buffer))
-six-texts buffer =
-    let f : ℕ → ℕ = λ p. 32 + code_at buffer p in
-    let n = length-map-range_with_len f 0 (six_length buffer) in
-    record {
-      short = omega arith;
-      shown = λ p l.
-          let is = get_or-map-range_with_len f 0 (six_length buffer) p p 0 (omega arith) (omega arith) in
-          let low = code_below (group buffer (p / 4)) (p % 4) in
-          ap six_shown is ∙ shown-code (code_at buffer p) low ∙ sym is;
-    }
-  where
-    shown-code : (c : ℕ) → c < 64 → six_shown (32 + c) ≡ 32 + c
-    shown-code c l = grind (arith, nat_tests)

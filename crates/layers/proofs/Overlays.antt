@@ -1,21 +1,17 @@
 -- Pasted bytes over a text, by the meaning of what is below alone. Assumes nothing.
-use Rattle.std.specs.Prelude.{◌≡◌, ℕ, suc, ◌+◌, ◌-◌, ◌<◌, ◌≤◌, max, true, false, cond, List, [], ◌∷◌, ◌++◌, length, get_or, take, drop, set, ◌==◌, ◌≢◌, slice_index, slice_index_or, slice_set, refl}
-use Rattle.std.proofs.Common.{sym, ap, ◌∙◌, ⊎_elim, arith, length-set, length-take, length-drop}
-use Rattle.std.proofs.lemmas.List.{get_or-take, get_or-set_same, get_or-set_other, set-set, set_comm, drop_more, drop_all, drop-set-lt, drop-set-add, take-set-le, take_more_set}
+use Rattle.std.specs.Prelude.{◌≡◌, ℕ, suc, ◌+◌, ◌-◌, ◌<◌, ◌≤◌, max, true, false, cond, List, [], ◌∷◌, ◌++◌, length, get_or, take, drop, set, ◌==◌, ◌≢◌, slice_index_or, slice_set, refl}
+use Rattle.std.proofs.Common.{sym, ap, ◌∙◌, ⊎_elim, arith, length-take, length-drop}
+use Rattle.std.proofs.lemmas.List.{get_or-take, set-set, set_comm, drop_more, drop_all, drop-set-lt, drop-set-add, take-set-le, take_more_set}
 use Rattle.std.proofs.lemmas.Bool.{cases_Bool, cases_eq, cases_lt, eq-eqb, ne_eqb, cond-true, cond-false}
-use Rattle.galleys.specs.Galleys.{Showing, Text}
 use Rattle.galleys.proofs.Parts.{take-set-in}
 use Rattle.layers.specs.declared.paste.Paste.{Paste}
+use Rattle.layers.specs.PastedTexts.{length_over}
 use Rattle.layers.specs.Pasted.{Pasting, first_at, is_full, paste_in, over}
 
 abbrev one : ℕ → ℕ → Paste
 one at b = record { at = at; byte = b }
 
 module _ (shows : ℕ → ℕ) (text : List ℕ) where
-  pub length_over : (ps : List Paste) → length (over shows text ps) ≡ length text
-  length_over [] = refl
-  length_over (p ∷ ps) = length-set (over shows text ps) p.at (shows p.byte) ∙ length_over ps
-
   -- one more pasted
   pub over-pasted : (ps : List Paste) (at b : ℕ) → over shows text (paste_in ps at b) ≡ slice_set (over shows text ps) at (shows b)
   over-pasted [] at b = refl
@@ -35,26 +31,6 @@ module _ (shows : ℕ → ℕ) (text : List ℕ) where
 
   pub over_none : (ps : List Paste) (i : ℕ) → length ps ≤ i → text ≡ over shows text (drop i ps)
   over_none ps i l = sym (ap (over shows text) (drop_all i ps l))
-
-  -- every byte shows as itself
-  over-shown : Showing shows → Text shows text → (ps : List Paste) (q : ℕ) → q < length text → shows (slice_index (over shows text ps) q) ≡ slice_index (over shows text ps) q
-  over-shown s t [] q l = t.shown q l
-  over-shown s t (p ∷ ps) q l =
-      let n = length_over ps in
-      ⊎_elim
-      (λ (e : q ≡ p.at).
-      let at : get_or (slice_set (over shows text ps) p.at (shows p.byte)) q 0 ≡ shows p.byte =
-      ap (λ k. slice_index (slice_set (over shows text ps) p.at (shows p.byte)) k) e ∙ get_or-set_same (over shows text ps) p.at (shows p.byte) 0 (omega arith) in
-      ap shows at ∙ s.again p.byte ∙ sym at)
-      (λ (d : q ≡ p.at → ⊥).
-      let at = get_or-set_other (over shows text ps) p.at q (shows p.byte) 0 d in
-      ap shows at ∙ over-shown s t ps q l ∙ sym at)
-      (cases_eq q p.at)
-
-  pub over-text : Showing shows → Text shows text → (ps : List Paste) → Text shows (over shows text ps)
-  over-text s t ps =
-      let n = length_over ps in
-      record { short = omega (arith, t.short); shown = λ q l. over-shown s t ps q (omega arith) }
 
   -- the same, in the array of which the first `held` are held
   pub put-more : (all : List Paste) (held i : ℕ) (d : Paste) (now : List ℕ) → 0 < i → i ≤ held → held ≤ length all → now ≡ over shows text (drop i (take held all)) →
