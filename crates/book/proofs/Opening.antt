@@ -1,7 +1,8 @@
 -- Pages opened one after the other, and a run to the end. Assumes nothing.
-use Rattle.std.proofs.Common.{◌≡◌, ℕ, ◌+◌, ◌%◌, ◌<◌, ◌≤◌, min, Bool, true, false, cond, eqb, List, [], ◌∷◌, ◌++◌, length, get_or, drop, Ok, Option, sym, refl, ap, ◌∙◌, arith}
+use Rattle.std.proofs.Common.{◌≡◌, ℕ, ◌+◌, ◌%◌, ◌<◌, ◌≤◌, min, Bool, true, false, cond, eqb, List, [], ◌∷◌, ◌++◌, length, get_or, drop, Ok, sym, refl, ap, ◌∙◌, arith}
 use Rattle.std.proofs.lemmas.List.{at_drop_more, at_drop_all}
-use Rattle.rules.specs.Terms.{Term}
+use Rattle.matchers.specs.declared.matcher.Matcher as matcher
+use Rattle.galleys.specs.declared.galley.Galley as galley
 use Rattle.rules.specs.Words.{count}
 use Rattle.rules.proofs.Counts.{count_left, count_most}
 use Rattle.indexer.specs.declared.index.Indexer.{Indexer}
@@ -14,23 +15,23 @@ use Rattle.term_sheet.specs.Entered.{first_fault, entered_all, Entered}
 use Rattle.book.specs.Book.{opened, finished, Opened, Indexed}
 
 -- i has become j by the pages so far, and `rest` is left to open
-pub record Going {M G : Type 0} (fit : M → ℕ → ℕ → Bool) (text : G → List ℕ) (shows : ℕ → ℕ) (i : Indexer M G) (starts : List ℕ) (j : Indexer M G) (rest : List ℕ) : Type 0 where
-  pub follows : opened (fit i.matcher) shows (view text i) starts ≡ opened (fit i.matcher) shows (view text j) rest
+pub record Going {M G : Type 0} (matching : matcher.Ghosts M) (holding : galley.Ghosts G) (i : Indexer M G) (starts : List ℕ) (j : Indexer M G) (rest : List ℕ) : Type 0 where
+  pub follows : opened (matching.fit i.matcher) holding.shows (view holding i) starts ≡ opened (matching.fit i.matcher) holding.shows (view holding j) rest
   pub matcher : j.matcher ≡ i.matcher
   pub galley : j.galley ≡ i.galley
   pub job : j.job ≡ i.job
-  pub sound : Sound fit text i → Sound fit text j
+  pub sound : Sound matching holding i → Sound matching holding j
 
 -- one page more
-pub going_more : {M G : Type 0} (held : M → Option Term) (fit : M → ℕ → ℕ → Bool) (text : G → List ℕ) (shows : ℕ → ℕ) (i : Indexer M G) (starts : List ℕ) (j : Indexer M G) (n at : ℕ) (a : Answer) (k : Indexer M G) →
-    n < length starts → at ≡ get_or starts n 0 → Going fit text shows i starts j (drop n starts) → Called held fit text shows j (page at) a k → Going fit text shows i starts k (drop (n + 1) starts)
-going_more held fit text shows i starts j n at a k below is going called =
-    let more : opened (fit i.matcher) shows (view text j) (drop n starts) ≡ opened (fit i.matcher) shows (step (fit i.matcher) shows (view text j) (page (get_or starts n 0))) (drop (n + 1) starts) =
-    at_drop_more (λ xs. opened (fit i.matcher) shows (view text j) xs) starts n 0 below in
-    let moved : step (fit i.matcher) shows (view text j) (page (get_or starts n 0)) ≡ view text k =
-    ap (λ p. step (fit i.matcher) shows (view text j) (page p)) (sym is) ∙ sym (called.follows ∙ ap (λ m. step (fit m) shows (view text j) (page at)) going.matcher) in
+pub going_more : {M G : Type 0} (matching : matcher.Ghosts M) (holding : galley.Ghosts G) (i : Indexer M G) (starts : List ℕ) (j : Indexer M G) (n at : ℕ) (a : Answer) (k : Indexer M G) →
+    n < length starts → at ≡ get_or starts n 0 → Going matching holding i starts j (drop n starts) → Called matching holding j (page at) a k → Going matching holding i starts k (drop (n + 1) starts)
+going_more matching holding i starts j n at a k below is going called =
+    let more : opened (matching.fit i.matcher) holding.shows (view holding j) (drop n starts) ≡ opened (matching.fit i.matcher) holding.shows (step (matching.fit i.matcher) holding.shows (view holding j) (page (get_or starts n 0))) (drop (n + 1) starts) =
+    at_drop_more (λ xs. opened (matching.fit i.matcher) holding.shows (view holding j) xs) starts n 0 below in
+    let moved : step (matching.fit i.matcher) holding.shows (view holding j) (page (get_or starts n 0)) ≡ view holding k =
+    ap (λ p. step (matching.fit i.matcher) holding.shows (view holding j) (page p)) (sym is) ∙ sym (called.follows ∙ ap (λ m. step (matching.fit m) holding.shows (view holding j) (page at)) going.matcher) in
     record {
-      follows = going.follows ∙ more ∙ ap (λ m. opened (fit i.matcher) shows m (drop (n + 1) starts)) moved;
+      follows = going.follows ∙ more ∙ ap (λ m. opened (matching.fit i.matcher) holding.shows m (drop (n + 1) starts)) moved;
       matcher = called.matcher refl ∙ going.matcher;
       galley = called.galley ∙ going.galley;
       job = called.job ∙ going.job;
@@ -63,22 +64,22 @@ unfolding behind_feeds
 feeds-all text xs i h = at_drop_all (λ bs. xs ++ behind_feeds i bs) text i h ∙ Rattle.std.proofs.lemmas.List.append-nil xs
 
 -- pages, entries and a run to the end
-module _ {M G : Type 0} (held : M → Option Term) (fit : M → ℕ → ℕ → Bool) (text : G → List ℕ) (shows : ℕ → ℕ) (i j k l : Indexer M G) (starts sheet : List ℕ) (u : ℕ) (a : Answer) where
-  pub indexed : 4096 ≤ u → Opened fit text shows i starts j → Entered fit text shows j (sheet_reading sheet) (Ok tt) k → Called held fit text shows k (run u) a l → Indexed held fit text shows i starts sheet (Ok tt) l
+module _ {M G : Type 0} (matching : matcher.Ghosts M) (holding : galley.Ghosts G) (i j k l : Indexer M G) (starts sheet : List ℕ) (u : ℕ) (a : Answer) where
+  pub indexed : 4096 ≤ u → Opened matching holding i starts j → Entered matching holding j (sheet_reading sheet) (Ok tt) k → Called matching holding k (run u) a l → Indexed matching holding i starts sheet (Ok tt) l
   indexed enough pages entered ran =
-      let before : entered_all (fit j.matcher) shows (view text j) (sheet_reading sheet) ≡ entered_all (fit i.matcher) shows (opened (fit i.matcher) shows (view text i) starts) (sheet_reading sheet) =
-      ap (λ m. entered_all (fit m) shows (view text j) (sheet_reading sheet)) pages.matcher ∙ ap (λ m. entered_all (fit i.matcher) shows m (sheet_reading sheet)) pages.follows in
-      let all : view text l ≡ finished (view text k) = ran.follows ∙ ap (λ n. after_units (view text k) n) (run-all (view text k) u enough) in
-      let last : entered_all (fit i.matcher) shows (opened (fit i.matcher) shows (view text i) starts) (sheet_reading sheet) ≡ view text k = sym (entered.follows ∙ before) in
+      let before : entered_all (matching.fit j.matcher) holding.shows (view holding j) (sheet_reading sheet) ≡ entered_all (matching.fit i.matcher) holding.shows (opened (matching.fit i.matcher) holding.shows (view holding i) starts) (sheet_reading sheet) =
+      ap (λ m. entered_all (matching.fit m) holding.shows (view holding j) (sheet_reading sheet)) pages.matcher ∙ ap (λ m. entered_all (matching.fit i.matcher) holding.shows m (sheet_reading sheet)) pages.follows in
+      let all : view holding l ≡ finished (view holding k) = ran.follows ∙ ap (λ n. after_units (view holding k) n) (run-all (view holding k) u enough) in
+      let last : entered_all (matching.fit i.matcher) holding.shows (opened (matching.fit i.matcher) holding.shows (view holding i) starts) (sheet_reading sheet) ≡ view holding k = sym (entered.follows ∙ before) in
       let same : k.matcher ≡ i.matcher = entered.matcher ∙ pages.matcher in
       record {
-        answers = entered.answers ∙ ap (λ m. first_fault (fit m) shows (view text j) (sheet_reading sheet)) pages.matcher ∙ ap (λ m. first_fault (fit i.matcher) shows m (sheet_reading sheet)) pages.follows;
+        answers = entered.answers ∙ ap (λ m. first_fault (matching.fit m) holding.shows (view holding j) (sheet_reading sheet)) pages.matcher ∙ ap (λ m. first_fault (matching.fit i.matcher) holding.shows m (sheet_reading sheet)) pages.follows;
         follows = all ∙ ap finished (entered.follows ∙ before);
-        paid = λ _. ap owing all ∙ finished-owes (view text k);
-        fits = λ n m. ran.fits n m ∙ ap (λ x. fit x n m) same;
+        paid = λ _. ap owing all ∙ finished-owes (view holding k);
+        fits = λ n m. ran.fits n m ∙ ap (λ x. matching.fit x n m) same;
         fault = λ e. absurd (let z : ◌≡◌ {A = ℕ} 0 1 = cc in omega arith);
-        idle = λ none. ran.matcher (run-all (view text k) u enough ∙ sym (ap owing last) ∙ none) ∙ same;
-        holds = λ _ right x owes at. ran.holds (entered.sound (pages.sound right)) x (sym (ap (λ m. m.owed x) last) ∙ owes) (sym (ap (λ m. count m.owed x + 1) last) ∙ at ∙ ap owing last ∙ sym (run-all (view text k) u enough)) ∙ sym (ap (λ m. m.stands (x % 16)) last);
+        idle = λ none. ran.matcher (run-all (view holding k) u enough ∙ sym (ap owing last) ∙ none) ∙ same;
+        holds = λ _ right x owes at. ran.holds (entered.sound (pages.sound right)) x (sym (ap (λ m. m.owed x) last) ∙ owes) (sym (ap (λ m. count m.owed x + 1) last) ∙ at ∙ ap owing last ∙ sym (run-all (view holding k) u enough)) ∙ sym (ap (λ m. m.stands (x % 16)) last);
         galley = ran.galley ∙ entered.galley ∙ pages.galley;
         job = ran.job ∙ entered.job ∙ pages.job;
         sound = λ right. ran.sound (entered.sound (pages.sound right));

@@ -9,7 +9,7 @@ use term_sheet::fault::Fault;
 
 // Opens a page at each of the places, as far as they are accepted.
 pub fn open_pages<M: Matcher, G: Galley>(indexer: &mut Indexer<M, G>, starts: &[usize])
-    ensures opened { Opened M.Matcher.fit G.Galley.text G.Galley.shows indexer.old starts.now indexer.new }
+    ensures opened { Opened M.Matcher G.Galley indexer.old starts.now indexer.new }
 {
     for at in starts {
         let _ = indexer.page(*at);
@@ -22,7 +22,7 @@ pub fn index_book<M: Matcher, G: Galley>(
     starts: &[usize],
     sheet: &[u8],
 ) -> Result<(), Fault>
-    ensures indexed { Indexed M.Matcher.held M.Matcher.fit G.Galley.text G.Galley.shows indexer.old starts.now sheet.now result indexer.new }
+    ensures indexed { Indexed M.Matcher G.Galley indexer.old starts.now sheet.now result indexer.new }
 {
     open_pages(indexer, starts);
     enter_sheet(indexer, sheet)?;

@@ -41,7 +41,7 @@ fn told(
 ) -> anyhow::Result<()> {
     let refused = match answer {
         Ok(()) => 0,
-        Err(refusal) => refusal.number(),
+        Err(refusal) => u8::from(refusal),
     };
     println!(rt; "{action} {number}: {refused}")?;
     Ok(())

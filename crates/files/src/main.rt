@@ -22,7 +22,7 @@ fn start(
         Ok(file) => file,
         Err(declined) => {
             let Declined { refusal, back } = declined;
-            *note = refusal.number();
+            *note = u8::from(refusal);
             match back.head(spare, given) {
                 Ok(file) => file,
                 Err(_) => unreachable(),
@@ -45,7 +45,7 @@ fn add_term(
         Ok(file) => file,
         Err(declined) => {
             let Declined { refusal, back } = declined;
-            *note = refusal.number();
+            *note = u8::from(refusal);
             match back.term(spare, given) {
                 Ok(file) => file,
                 Err(declined) => {
@@ -71,7 +71,7 @@ fn add_locator(
         Ok(file) => file,
         Err(declined) => {
             let Declined { refusal, back } = declined;
-            *note = refusal.number();
+            *note = u8::from(refusal);
             match back.locator(spare, given) {
                 Ok(file) => file,
                 Err(declined) => {
@@ -91,7 +91,7 @@ fn finish(file: Headed, buffer: &mut [u8], spare: &mut [u8; 1024], note: &mut u8
         Ok(length) => length,
         Err(declined) => {
             let Declined { refusal, back } = declined;
-            *note = refusal.number();
+            *note = u8::from(refusal);
             match back.end(spare) {
                 Ok(length) => length,
                 Err(_) => unreachable(),

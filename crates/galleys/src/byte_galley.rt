@@ -6,11 +6,8 @@ ghost use Rattle.galleys.specs.Galleys.{Put};
 ghost use Rattle.rules.proofs.Folds.{folded-folded};
 
 use super::byte::ByteGalley;
-use super::galley::Galley;
+use super::galley::{Galley, MOST};
 use rules::refusal::Refusal;
-
-// The most bytes that a text can have.
-const MOST: usize = 16384;
 
 impl ByteGalley {
     // The galley of the buffer's bytes.
@@ -47,12 +44,9 @@ impl Galley for ByteGalley {
     }
 
     fn fetch(&self, at: usize, buffer: &mut [u8]) -> Result<(), Refusal> {
-        let n = self.buffer.len().min(MOST);
+        let n = self.length();
         let l = buffer.len();
-        if l > n {
-            return Err(Refusal::PastText);
-        }
-        if at > n - l {
+        if l > n || at > n - l {
             return Err(Refusal::PastText);
         }
         buffer.copy_from_slice(&self.buffer[at..at + l]);
@@ -64,7 +58,7 @@ impl Galley for ByteGalley {
         ensures put { Put byte_text self.old at b result self.new }
         ensures buffer { is_ok result ≡ true → self.new.buffer.items ≡ slice_set self.old.buffer.items at b }
     {
-        if at >= self.buffer.len().min(MOST) {
+        if at >= self.length() {
             return Err(Refusal::PastText);
         }
         self.buffer[at] = b;

@@ -8,7 +8,7 @@ fn group_of(buffer: &[u8], g: usize) -> u32
     ensures value { result ≡ group buffer.now g }
     ensures bound { result < 16777216 }
 {
-    buffer[3 * g] as u32 * 65536 + (buffer[3 * g + 1] as u32 * 256 + buffer[3 * g + 2] as u32)
+    u32::from_be_bytes([0, buffer[3 * g], buffer[3 * g + 1], buffer[3 * g + 2]])
 }
 
 // The code of character `p`.
@@ -38,7 +38,8 @@ pub(super) fn recode(buffer: &mut [u8], at: usize, code: u8)
 {
     let g = at / 4;
     let group = recoded_group(group_of(buffer, g), at % 4, code);
-    buffer[3 * g] = (group / 65536) as u8;
-    buffer[3 * g + 1] = (group / 256 % 256) as u8;
-    buffer[3 * g + 2] = (group % 256) as u8;
+    let [_, high, middle, low] = group.to_be_bytes();
+    buffer[3 * g] = high;
+    buffer[3 * g + 1] = middle;
+    buffer[3 * g + 2] = low;
 }

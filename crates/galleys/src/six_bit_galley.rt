@@ -6,13 +6,10 @@ ghost use Rattle.galleys.specs.SixBit.{six_shown, six_text};
 ghost use Rattle.galleys.specs.SixBitTexts.{six-texts};
 ghost use Rattle.std.proofs.Common.{rules};
 
-use super::galley::Galley;
+use super::galley::{Galley, MOST};
 use super::packing::{code_at, recode};
 use super::six_bit::SixBitGalley;
 use rules::refusal::Refusal;
-
-// The most characters that a text can have.
-const MOST: usize = 16384;
 
 // What the galley shows for a byte: a small letter as its capital, what it has no code for as a space.
 fn shown(b: u8) -> u8
@@ -72,10 +69,7 @@ impl Galley for SixBitGalley {
     fn fetch(&self, at: usize, buffer: &mut [u8]) -> Result<(), Refusal> {
         let n = self.length();
         let l = buffer.len();
-        if l > n {
-            return Err(Refusal::PastText);
-        }
-        if at > n - l {
+        if l > n || at > n - l {
             return Err(Refusal::PastText);
         }
         unpack(self.buffer.as_slice(), at, buffer);

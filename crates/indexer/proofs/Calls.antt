@@ -2,6 +2,8 @@
 use Rattle.std.proofs.Common.{◌≡◌, ℕ, ◌/◌, ◌%◌, ◌≤◌, Bool, true, false, cond, eqb, List, map, length, is_some, Some, None, Ok, Err, Option, Result, sym, refl, ap, ◌∙◌, subst, arith}
 use mathlib.Core.Path.{fun_ext}
 use Rattle.std.specs.Option.{option_map}
+use Rattle.matchers.specs.declared.matcher.Matcher as matcher
+use Rattle.galleys.specs.declared.galley.Galley as galley
 use Rattle.rules.specs.declared.refusal.Refusal.{Refusal}
 use Rattle.rules.specs.declared.refusal.Refusal.TheVariants.{TermStands, TermUnfit}
 use Rattle.rules.specs.Refusals.{answer_of, in_order, numbering, malformed}
@@ -56,9 +58,9 @@ module _ (fit : ℕ → ℕ → Bool) (m : Machine) (number k : ℕ) (term : Lis
         pub accepted : fit (length term) k ≡ true → entering fit m number k term ≡ None
         accepted h = passed ∙ ap (λ b. last-checks b (fit (length term) k)) free ∙ ap (λ b. last-checks false b) h
 
-module _ {M G : Type 0} (held : M → Option Term) (fit : M → ℕ → ℕ → Bool) (text : G → List ℕ) (shows : ℕ → ℕ) (i : Indexer M G) where
+module _ {M G : Type 0} (matching : matcher.Ghosts M) (holding : galley.Ghosts G) (i : Indexer M G) where
   -- a call that leaves the indexer and the machine alone
-  pub unchanged : (c : Call) (a : Answer) → doing (view text i) c ≡ 0 → a ≡ answer (fit i.matcher) (view text i) c → step (fit i.matcher) shows (view text i) c ≡ view text i → Called held fit text shows i c a i
+  pub unchanged : (c : Call) (a : Answer) → doing (view holding i) c ≡ 0 → a ≡ answer (matching.fit i.matcher) (view holding i) c → step (matching.fit i.matcher) holding.shows (view holding i) c ≡ view holding i → Called matching holding i c a i
   unchanged c a none answers stays = record {
     answers = answers;
     follows = sym stays;
@@ -72,26 +74,26 @@ module _ {M G : Type 0} (held : M → Option Term) (fit : M → ℕ → ℕ → 
   }
 
   module _ (number k : ℕ) (term : List ℕ) where
-    pub enter-refused : (e : Refusal) (r : Result (Unit {0}) Refusal) → r ≡ Err e → entering (fit i.matcher) (view text i) number k term ≡ Some e → Called held fit text shows i (enter number k term) (said r) i
-    enter-refused e r is why = unchanged (enter number k term) (said r) refl (ap said is ∙ sym (ap (λ o. said (answer_of o)) why)) (ap (λ o. after_enter shows (view text i) number k term o) why)
+    pub enter-refused : (e : Refusal) (r : Result (Unit {0}) Refusal) → r ≡ Err e → entering (matching.fit i.matcher) (view holding i) number k term ≡ Some e → Called matching holding i (enter number k term) (said r) i
+    enter-refused e r is why = unchanged (enter number k term) (said r) refl (ap said is ∙ sym (ap (λ o. said (answer_of o)) why)) (ap (λ o. after_enter holding.shows (view holding i) number k term o) why)
 
     -- the term was taken: it stands, and its units are owed
-    pub enter-called : (l : Ledger) (t : Term) → entering (fit i.matcher) (view text i) number k term ≡ None → t ≡ record { bytes = map shows term; limit = k } → length (text i.galley) ≤ 16384 →
-        Entered i.ledger number t (length (text i.galley)) l → is_some ((view text i).stands number) ≡ false → fit i.matcher (length term) k ≡ true →
-        Called held fit text shows i (enter number k term) (said (Ok tt)) (record { matcher = i.matcher; galley = i.galley; job = i.job; ledger = l })
+    pub enter-called : (l : Ledger) (t : Term) → entering (matching.fit i.matcher) (view holding i) number k term ≡ None → t ≡ record { bytes = map holding.shows term; limit = k } → length (holding.text i.galley) ≤ 16384 →
+        Entered i.ledger number t (length (holding.text i.galley)) l → is_some ((view holding i).stands number) ≡ false → matching.fit i.matcher (length term) k ≡ true →
+        Called matching holding i (enter number k term) (said (Ok tt)) (record { matcher = i.matcher; galley = i.galley; job = i.job; ledger = l })
     enter-called l t why is short entered free fits = record {
       answers = sym (ap (λ o. said (answer_of o)) why);
-      follows = same-machine refl (ap page_starts entered.pages) (λ n. entered.terms n ∙ ap (λ u. cond (eqb n number) (Some u) ((view text i).stands n)) is)
-          (λ x. entered-owes (fit i.matcher) (text i.galley) i.ledger l number t short entered (x % 16) (x / 16))
-          ∙ sym (ap (λ o. after_enter shows (view text i) number k term o) why);
+      follows = same-machine refl (ap page_starts entered.pages) (λ n. entered.terms n ∙ ap (λ u. cond (eqb n number) (Some u) ((view holding i).stands n)) is)
+          (λ x. entered-owes (matching.fit i.matcher) (holding.text i.galley) i.ledger l number t short entered (x % 16) (x / 16))
+          ∙ sym (ap (λ o. after_enter holding.shows (view holding i) number k term o) why);
       job = refl;
       galley = refl;
       fits = λ m q. refl;
       matcher = λ _. refl;
       holds = λ sound x owed last. absurd (let z : ◌≡◌ {A = ℕ} 0 1 = omega arith in omega arith);
       same = λ no. absurd (both_ways false refl no);
-      sound = λ right. entered-right (fit i.matcher) (text i.galley) i.ledger l number t short entered free
-          (let m : length t.bytes ≡ length term = ap (λ (u : Term). length u.bytes) is ∙ length-map term shows in let q : t.limit ≡ k = ap (λ (u : Term). u.limit) is in cc) right;
+      sound = λ right. entered-right (matching.fit i.matcher) (holding.text i.galley) i.ledger l number t short entered free
+          (let m : length t.bytes ≡ length term = ap (λ (u : Term). length u.bytes) is ∙ length-map term holding.shows in let q : t.limit ≡ k = ap (λ (u : Term). u.limit) is in cc) right;
     }
 
 -- a term as the galley shows it has the same length

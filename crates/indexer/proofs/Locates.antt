@@ -1,7 +1,9 @@
 -- The first locator by the marks is the first by the rules. Assumes nothing.
-use Rattle.std.proofs.Common.{◌≡◌, ℕ, ◌+◌, ◌*◌, ◌/◌, ◌%◌, ◌<◌, ◌≤◌, min, Bool, true, false, cond, not, ◌&&◌, ltb, List, length, Some, None, Ok, Err, Option, Result, sym, refl, ap, ◌∙◌, ⊎_elim, arith}
+use Rattle.std.proofs.Common.{◌≡◌, ℕ, ◌+◌, ◌*◌, ◌/◌, ◌%◌, ◌<◌, ◌≤◌, min, true, false, cond, not, ◌&&◌, ltb, length, Some, None, Ok, Err, Option, Result, sym, refl, ap, ◌∙◌, ⊎_elim, arith}
 use Rattle.std.specs.Option.{option_map}
 use Rattle.std.proofs.lemmas.Bool.{cases_Bool, ltb-true, and_right, not_from_true}
+use Rattle.matchers.specs.declared.matcher.Matcher as matcher
+use Rattle.galleys.specs.declared.galley.Galley as galley
 use Rattle.rules.specs.declared.refusal.Refusal.{Refusal}
 use Rattle.rules.specs.declared.refusal.Refusal.TheVariants.{NumberTooHigh}
 use Rattle.rules.specs.declared.locator.Locator.{Locator}
@@ -27,40 +29,40 @@ unit-owes l n b h =
     let be : (16 * b + n) / 16 ≡ b = omega arith in
     ap (λ m. owes l.debts m ((16 * b + n) / 16)) ne ∙ ap (owes l.debts n) be
 
-module _ {M G : Type 0} (fit : M → ℕ → ℕ → Bool) (text : G → List ℕ) (i : Indexer M G) (number from : ℕ) where
-  -- at a start of the text a mark whose unit is not owed is a listed locator
-  start-same : (t : Term) → number < 16 → (view text i).stands number ≡ Some t → Sound fit text i → (s : ℕ) → s < length (text i.galley) → byMarks i.ledger number s ≡ listed (view text i) number t s
+module _ {M G : Type 0} (matching : matcher.Ghosts M) (holding : galley.Ghosts G) (i : Indexer M G) (number from : ℕ) where
+  -- at a start of the holding.text a mark whose unit is not owed is a listed locator
+  start-same : (t : Term) → number < 16 → (view holding i).stands number ≡ Some t → Sound matching holding i → (s : ℕ) → s < length (holding.text i.galley) → byMarks i.ledger number s ≡ listed (view holding i) number t s
   start-same t small stands right s below =
       ap (λ o. marked i.ledger.marks number s && not o) (sym (unit-owes i.ledger number (s / 64) small))
       ∙ ⊎_elim
       (λ (on : owed i.ledger.debts (16 * (s / 64) + number) ≡ true).
       let off : not (owed i.ledger.debts (16 * (s / 64) + number)) ≡ false = not_from_true _ on in
-      and_right (marked i.ledger.marks number s) _ off ∙ sym (and_right (occurs t (text i.galley) s) _ off))
+      and_right (marked i.ledger.marks number s) _ off ∙ sym (and_right (occurs t (holding.text i.galley) s) _ off))
       (λ (off : owed i.ledger.debts (16 * (s / 64) + number) ≡ false).
       ap (λ b. b && not (owed i.ledger.debts (16 * (s / 64) + number))) (right.marks number s t stands below (sym (unit-owes i.ledger number (s / 64) small) ∙ off)))
       (cases_Bool (owed i.ledger.debts (16 * (s / 64) + number)))
 
-  same_first : (o : Option Term) → number < 16 → (view text i).stands number ≡ o → Sound fit text i → first_of (λ t. byMarks i.ledger number) (view text i) o from ≡ first_of (listed (view text i) number) (view text i) o from
+  same_first : (o : Option Term) → number < 16 → (view holding i).stands number ≡ o → Sound matching holding i → first_of (λ t. byMarks i.ledger number) (view holding i) o from ≡ first_of (listed (view holding i) number) (view holding i) o from
   same_first None small stands right = refl
   same_first (Some t) small stands right =
-      ap (λ o. Ok (option_map (locator_at (view text i) t) o)) (first_from-same (byMarks i.ledger number) (listed (view text i) number t) from (length (text i.galley)) (start-same t small stands right))
+      ap (λ o. Ok (option_map (locator_at (view holding i) t) o)) (first_from-same (byMarks i.ledger number) (listed (view holding i) number t) from (length (holding.text i.galley)) (start-same t small stands right))
 
-  same-locator : Sound fit text i → locating (λ t. byMarks i.ledger number) (view text i) number from ≡ locating (listed (view text i) number) (view text i) number from
+  same-locator : Sound matching holding i → locating (λ t. byMarks i.ledger number) (view holding i) number from ≡ locating (listed (view holding i) number) (view holding i) number from
   same-locator right =
       ⊎_elim
-      (λ (e : ltb number 16 ≡ true). ap (λ r. cond (ltb number 16) r (Err NumberTooHigh)) (same_first ((view text i).stands number) (ltb-true number 16 e) refl right))
-      (λ (e : ltb number 16 ≡ false). ap (λ b. cond b (first_of (λ t. byMarks i.ledger number) (view text i) ((view text i).stands number) from) (Err NumberTooHigh)) e ∙ sym (ap (λ b. cond b (first_of (listed (view text i) number) (view text i) ((view text i).stands number) from) (Err NumberTooHigh)) e))
+      (λ (e : ltb number 16 ≡ true). ap (λ r. cond (ltb number 16) r (Err NumberTooHigh)) (same_first ((view holding i).stands number) (ltb-true number 16 e) refl right))
+      (λ (e : ltb number 16 ≡ false). ap (λ b. cond b (first_of (λ t. byMarks i.ledger number) (view holding i) ((view holding i).stands number) from) (Err NumberTooHigh)) e ∙ sym (ap (λ b. cond b (first_of (listed (view holding i) number) (view holding i) ((view holding i).stands number) from) (Err NumberTooHigh)) e))
       (cases_Bool (ltb number 16))
 
   -- what the marks give is what the rules give
-  pub located : (r : Result (Option Locator) Refusal) → r ≡ locating (λ t. byMarks i.ledger number) (view text i) number from → Located fit text i number from r
+  pub located : (r : Result (Option Locator) Refusal) → r ≡ locating (λ t. byMarks i.ledger number) (view holding i) number from → Located matching holding i number from r
   located r e = record { marks = e; listed = λ right. e ∙ same-locator right }
 
   -- the first mark of a standing term
-  pub first-located : (t : Term) (o : Option ℕ) (size : ℕ) → numbering number ≡ None → (view text i).stands number ≡ Some t → length (text i.galley) ≤ 16384 → size ≡ length (text i.galley) →
-      o ≡ first_from (byMarks i.ledger number) from (min size 16384) → Ok (option_map (locator_at (view text i) t) o) ≡ locating (λ t. byMarks i.ledger number) (view text i) number from
+  pub first-located : (t : Term) (o : Option ℕ) (size : ℕ) → numbering number ≡ None → (view holding i).stands number ≡ Some t → length (holding.text i.galley) ≤ 16384 → size ≡ length (holding.text i.galley) →
+      o ≡ first_from (byMarks i.ledger number) from (min size 16384) → Ok (option_map (locator_at (view holding i) t) o) ≡ locating (λ t. byMarks i.ledger number) (view holding i) number from
   first-located t o size numbered stands short is first =
-      let n : min size 16384 ≡ length (text i.galley) = omega arith in
-      ap (λ x. Ok (option_map (locator_at (view text i) t) x)) (first ∙ ap (λ k. first_from (byMarks i.ledger number) from k) n)
-      ∙ sym (ap (λ b. cond b (first_of (λ t. byMarks i.ledger number) (view text i) ((view text i).stands number) from) (Err NumberTooHigh)) (number-below number numbered)
-      ∙ ap (λ x. first_of (λ t. byMarks i.ledger number) (view text i) x from) stands)
+      let n : min size 16384 ≡ length (holding.text i.galley) = omega arith in
+      ap (λ x. Ok (option_map (locator_at (view holding i) t) x)) (first ∙ ap (λ k. first_from (byMarks i.ledger number) from k) n)
+      ∙ sym (ap (λ b. cond b (first_of (λ t. byMarks i.ledger number) (view holding i) ((view holding i).stands number) from) (Err NumberTooHigh)) (number-below number numbered)
+      ∙ ap (λ x. first_of (λ t. byMarks i.ledger number) (view holding i) x from) stands)

@@ -1,7 +1,8 @@
 -- One unit more of a run. Assumes nothing.
-use Rattle.std.proofs.Common.{◌≡◌, ℕ, ◌+◌, ◌-◌, ◌%◌, ◌<◌, ◌≤◌, min, Bool, true, false, cond, ◌&&◌, eqb, leb, List, Option, sym, refl, ap, ◌∙◌, arith}
+use Rattle.std.proofs.Common.{◌≡◌, ℕ, ◌+◌, ◌-◌, ◌%◌, ◌<◌, ◌≤◌, min, Bool, true, false, cond, ◌&&◌, eqb, leb, sym, refl, ap, ◌∙◌, arith}
 use Rattle.std.proofs.lemmas.Bool.{le-leb, both_ways}
-use Rattle.rules.specs.Terms.{Term}
+use Rattle.matchers.specs.declared.matcher.Matcher as matcher
+use Rattle.galleys.specs.declared.galley.Galley as galley
 use Rattle.rules.specs.Words.{count}
 use Rattle.rules.proofs.Counts.{left, next-left, next-within, next-count, next-passes, count_same, count_left, count-below, count-tells}
 use Rattle.ledger.specs.Debts.{owed}
@@ -15,9 +16,9 @@ use Rattle.indexer.specs.Called.{view, Called}
 use Rattle.indexer.specs.Works.{Did, Ran}
 use Rattle.indexer.proofs.Calls.{same-machine}
 
-module _ {M G : Type 0} (held : M → Option Term) (fit : M → ℕ → ℕ → Bool) (text : G → List ℕ) (i : Indexer M G) where
+module _ {M G : Type 0} (matching : matcher.Ghosts M) (holding : galley.Ghosts G) (i : Indexer M G) where
   -- before the first unit
-  pub ran-none : Ran held fit text i 0 i
+  pub ran-none : Ran matching holding i 0 i
   ran-none = record {
     galley = refl;
     job = refl;
@@ -34,7 +35,7 @@ module _ {M G : Type 0} (held : M → Option Term) (fit : M → ℕ → ℕ → 
       all_left true n = sym (le-leb 0 n (omega arith))
       all_left false n = refl
 
-  module _ (j : Indexer M G) (d : ℕ) (ran : Ran held fit text i d j) where
+  module _ (j : Indexer M G) (d : ℕ) (ran : Ran matching holding i d j) where
     module _ (x : ℕ) (on : owed j.ledger.debts x ≡ true) (first : (y : ℕ) → y < x → owed j.ledger.debts y ≡ false) where
       was-on : left (owed i.ledger.debts) d x ≡ true
       was-on = sym (ran.owes x) ∙ on
@@ -50,7 +51,7 @@ module _ {M G : Type 0} (held : M → Option Term) (fit : M → ℕ → ℕ → 
       last-unit y also last =
           count-tells (owed i.ledger.debts) x y (next-passes (owed i.ledger.debts) d x was-on was-first) also (let n = next-count (owed i.ledger.debts) d x was-on was-first in omega arith)
 
-      pub ran-more : (k : Indexer M G) → Did held fit text j x k → Ran held fit text i (d + 1) k
+      pub ran-more : (k : Indexer M G) → Did matching holding j x k → Ran matching holding i (d + 1) k
       ran-more k done = record {
         galley = done.galley ∙ ran.galley;
         job = done.job ∙ ran.job;
@@ -64,7 +65,7 @@ module _ {M G : Type 0} (held : M → Option Term) (fit : M → ℕ → ℕ → 
       }
 
       -- nothing is owed before the unit's block
-      pub none_before : (k : Indexer M G) (b : ℕ) → b ≤ x → Did held fit text j x k → (y : ℕ) → y < b → owed k.ledger.debts y ≡ false
+      pub none_before : (k : Indexer M G) (b : ℕ) → b ≤ x → Did matching holding j x k → (y : ℕ) → y < b → owed k.ledger.debts y ≡ false
       none_before k b low done y l = done.owes y ∙ ap (λ o. cond (eqb y x) false o) (first y (omega arith)) ∙ both (eqb y x)
         where
           both : (c : Bool) → cond c false false ≡ false
@@ -79,12 +80,12 @@ module _ {M G : Type 0} (held : M → Option Term) (fit : M → ℕ → ℕ → 
     pub ran-all : ((y : ℕ) → y < 4096 → owed j.ledger.debts y ≡ false) → count (owed i.ledger.debts) 4096 ≤ d
     ran-all none = let a = ran-count in let b = count-below (owed j.ledger.debts) 4096 none in omega arith
 
-    pub run-called : (shows : ℕ → ℕ) (u rest : ℕ) → d ≡ min u (owing (view text i)) → rest ≡ owing (view text j) → Called held fit text shows i (run u) (did d rest) j
-    run-called shows u rest all still =
-        let left_is : rest ≡ owing (view text i) - min u (owing (view text i)) = still ∙ ran-count ∙ ap (λ n. owing (view text i) - n) all in
+    pub run-called : (u rest : ℕ) → d ≡ min u (owing (view holding i)) → rest ≡ owing (view holding j) → Called matching holding i (run u) (did d rest) j
+    run-called u rest all still =
+        let left_is : rest ≡ owing (view holding i) - min u (owing (view holding i)) = still ∙ ran-count ∙ ap (λ n. owing (view holding i) - n) all in
         record {
           answers = cc;
-          follows = same-machine (ap text ran.galley) (ap page_starts ran.pages) (λ n. ap (λ ts. standing ts n) ran.terms) (λ x. ran.owes x ∙ ap (λ n. owed i.ledger.debts x && leb n (count (owed i.ledger.debts) x)) all);
+          follows = same-machine (ap holding.text ran.galley) (ap page_starts ran.pages) (λ n. ap (λ ts. standing ts n) ran.terms) (λ x. ran.owes x ∙ ap (λ n. owed i.ledger.debts x && leb n (count (owed i.ledger.debts) x)) all);
           job = ran.job;
           galley = ran.galley;
           fits = ran.fits;

@@ -2,6 +2,7 @@
 use Rattle.std.proofs.Common.{◌≡◌, ℕ, ◌+◌, ◌*◌, ◌/◌, ◌%◌, ◌<◌, Bool, true, false, cond, ◌&&◌, eqb, List, length, is_some, Some, None, Option, sym, refl, ap, ◌∙◌, ⊎_elim, arith, MatchOption}
 use Rattle.std.proofs.lemmas.Bool.{cases_Bool, and_parts, eqb-true, both_ways}
 use Rattle.std.proofs.lemmas.Bool.Decides.{nat_tests}
+use Rattle.matchers.specs.declared.matcher.Matcher as matcher
 use Rattle.rules.specs.Words.{bit}
 use Rattle.rules.specs.Terms.{Term, occurs}
 use Rattle.ledger.specs.declared.book.Ledger.{Ledger}
@@ -67,14 +68,14 @@ module _ (fit fit' : ℕ → ℕ → Bool) (text : List ℕ) (i j : Ledger) (u :
   }
 
 -- an owed unit's term is left in the matcher
-module _ {M : Type 0} (held : M → Option Term) (fit : M → ℕ → ℕ → Bool) (old new : M) (text : List ℕ) (l : Ledger) (u : declared.Unit) (word : Option ℕ) (right : Right (fit old) text l) (on : owed l.debts (unit_index u) ≡ true) where
+module _ {M : Type 0} (matching : matcher.Ghosts M) (old new : M) (text : List ℕ) (l : Ledger) (u : declared.Unit) (word : Option ℕ) (right : Right (matching.fit old) text l) (on : owed l.debts (unit_index u) ≡ true) where
   owes-it : owes l.debts u.number.value u.block ≡ true
   owes-it = ap (λ n. owes l.debts n u.block) (sym (unit-number u)) ∙ ap (λ b. owes l.debts (unit_index u % 16) b) (sym (unit-block u)) ∙ on
 
-  by_row : (o : Option Term) → o ≡ standing l.terms u.number.value → is_some o ≡ true → Looked held fit old text o u.block word new → held new ≡ o
+  by_row : (o : Option Term) → o ≡ standing l.terms u.number.value → is_some o ≡ true → Looked matching old text o u.block word new → matching.held new ≡ o
   by_row None e some looked = absurd (both_ways false refl some)
   by_row (Some t) e some looked = looked.holds t refl (right.fits u.number.value t (sym e)) (right.owing u.number.value u.block owes-it).1
 
-  pub done-holds : (o : Option Term) → o ≡ standing l.terms u.number.value → Looked held fit old text o u.block word new → held new ≡ standing l.terms (unit_index u % 16)
+  pub done-holds : (o : Option Term) → o ≡ standing l.terms u.number.value → Looked matching old text o u.block word new → matching.held new ≡ standing l.terms (unit_index u % 16)
   done-holds o e looked =
       by_row o e (ap is_some e ∙ (right.owing u.number.value u.block owes-it).0) looked ∙ e ∙ ap (standing l.terms) (sym (unit-number u))

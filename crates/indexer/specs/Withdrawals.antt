@@ -1,5 +1,7 @@
 -- What a withdrawal has done. Assumes nothing.
-use Rattle.std.specs.Prelude.{◌≡◌, ℕ, ◌/◌, ◌%◌, Bool, false, cond, ◌&&◌, List, None, Some, Option, Result, ◌==◌, nat_lt, is_ok, is_some}
+use Rattle.std.specs.Prelude.{◌≡◌, ℕ, ◌/◌, ◌%◌, false, cond, ◌&&◌, None, Some, Option, Result, ◌==◌, nat_lt, is_ok, is_some}
+use Rattle.matchers.specs.declared.matcher.Matcher as matcher
+use Rattle.galleys.specs.declared.galley.Galley as galley
 use Rattle.rules.specs.declared.refusal.Refusal.{Refusal}
 use Rattle.rules.specs.declared.refusal.Refusal.TheVariants.{NoTermStands}
 use Rattle.rules.specs.Refusals.{answer_of, in_order, numbering}
@@ -22,15 +24,15 @@ after_withdraw m number None = record {
 }
 
 -- the withdrawal of a number from i has answered r and left j: what is said of every call, for a call that does no unit
-pub record Withdrew {M G : Type 0} (fit : M → ℕ → ℕ → Bool) (text : G → List ℕ) (i : Indexer M G) (number : ℕ) (r : Result (Unit {0}) Refusal) (j : Indexer M G) : Type 0 where
+pub record Withdrew {M G : Type 0} (matching : matcher.Ghosts M) (holding : galley.Ghosts G) (i : Indexer M G) (number : ℕ) (r : Result (Unit {0}) Refusal) (j : Indexer M G) : Type 0 where
   -- it answered as the machine does
-  pub answers : r ≡ answer_of (withdrawing (view text i) number)
+  pub answers : r ≡ answer_of (withdrawing (view holding i) number)
   -- it left the indexer as the machine is left
-  pub follows : view text j ≡ after_withdraw (view text i) number (withdrawing (view text i) number)
+  pub follows : view holding j ≡ after_withdraw (view holding i) number (withdrawing (view holding i) number)
   pub job : j.job ≡ i.job
   pub galley : j.galley ≡ i.galley
   pub matcher : j.matcher ≡ i.matcher
   -- a refusal leaves the whole indexer as it was
   pub same : is_ok r ≡ false → j ≡ i
   -- the sentence on the marks is kept
-  pub sound : Sound fit text i → Sound fit text j
+  pub sound : Sound matching holding i → Sound matching holding j

@@ -15,7 +15,7 @@ use rules::refusal::Refusal;
 impl<M: Matcher, G: Galley> Indexer<M, G> {
     // An indexer of the galley's text: one page, no term, nothing owed.
     pub fn new(matcher: M, galley: G, job: u32) -> Indexer<M, G>
-        ensures made { Made M.Matcher.fit G.Galley.text matcher galley job result }
+        ensures made { Made M.Matcher G.Galley matcher galley job result }
     {
         Indexer {
             matcher,
@@ -27,7 +27,7 @@ impl<M: Matcher, G: Galley> Indexer<M, G> {
 
     // Opens a page that starts at the place.
     pub fn page(&mut self, at: usize) -> Result<(), Refusal>
-        ensures called { Called M.Matcher.held M.Matcher.fit G.Galley.text G.Galley.shows self.old (page at) (said result) self.new }
+        ensures called { Called M.Matcher G.Galley self.old (page at) (said result) self.new }
     {
         if at >= self.galley.length() {
             return Err(Refusal::PastText);
@@ -37,9 +37,9 @@ impl<M: Matcher, G: Galley> Indexer<M, G> {
 
     // Lets the term, each byte as the galley shows it, stand under the number; all its units become owed.
     pub fn enter(&mut self, number: usize, limit: usize, term: &[u8]) -> Result<(), Refusal>
-        ensures called { Called M.Matcher.held M.Matcher.fit G.Galley.text G.Galley.shows self.old (enter number limit term.now) (said result) self.new }
+        ensures called { Called M.Matcher G.Galley self.old (enter number limit term.now) (said result) self.new }
     {
-        let number = TermNumber::new(number)?;
+        let number = TermNumber::try_from(number)?;
         let shown = shown_term(&self.galley, term, limit)?;
         if self.ledger.terms.term(number).is_some() {
             return Err(Refusal::TermStands);

@@ -13,9 +13,9 @@ use rules::refusal::Refusal;
 impl<M: Matcher, G: Galley> Indexer<M, G> {
     // The first listed locator of the number's term at or after `from`; it is found by the marks, and nothing is searched.
     pub fn locator(&self, number: usize, from: usize) -> Result<Option<Locator>, Refusal>
-        ensures located { Located M.Matcher.fit G.Galley.text self.now number from result }
+        ensures located { Located M.Matcher G.Galley self.now number from result }
     {
-        let number = TermNumber::new(number)?;
+        let number = TermNumber::try_from(number)?;
         let Some(term) = self.ledger.terms.term(number) else {
             return Err(Refusal::NoTermStands);
         };

@@ -15,20 +15,16 @@ pub(super) fn look<M: Matcher, G: Galley>(
     standing: Option<HeldTerm>,
     block: u8,
 ) -> Option<u64>
-    ensures looked { Looked M.Matcher.held M.Matcher.fit matcher.old (G.Galley.text galley.now) (option_map term_of standing) block result matcher.new }
+    ensures looked { Looked M.Matcher matcher.old (G.Galley.text galley.now) (option_map term_of standing) block result matcher.new }
 {
-    let Some(term) = standing else {
-        return None;
-    };
+    let term = standing?;
     let n = galley.length();
     let start = 64 * block as usize;
     if start >= n {
         return None;
     }
     let bytes = term.bytes();
-    let Ok(()) = matcher.prepare(bytes, term.limit()) else {
-        return None;
-    };
+    matcher.prepare(bytes, term.limit()).ok()?;
     let len = (63 + bytes.len()).min(n - start);
     let mut buffer = [0u8; 127];
     seek(matcher, galley, start, &mut buffer[0..len])
@@ -43,11 +39,6 @@ fn seek<M: Matcher, G: Galley>(
 ) -> Option<u64>
     ensures sought { Sought (M.Matcher.held matcher.now) (G.Galley.text galley.now) start (length stretch.old) result }
 {
-    let Ok(()) = galley.fetch(start, stretch) else {
-        return None;
-    };
-    match matcher.scan(stretch) {
-        Ok(word) => Some(word),
-        Err(_) => None,
-    }
+    galley.fetch(start, stretch).ok()?;
+    matcher.scan(stretch).ok()
 }

@@ -16,8 +16,9 @@ fn hold_shown<G: Galley>(
     requires { length shown.old ≡ length term.now }
     ensures cases { Held (map G.Galley.shows term.now) limit result }
 {
-    for i in 0..term.len() {
-        shown[i] = galley.show(term[i]);
+    shown.copy_from_slice(term);
+    for b in shown.iter_mut() {
+        *b = galley.show(*b);
     }
     HeldTerm::new(shown, limit)
 }

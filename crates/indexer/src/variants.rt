@@ -1,27 +1,17 @@
 // Whether a term's own bytes stand at a start.
-ghost use Rattle.std.specs.Prelude.{◌≡◌, length, Decides};
+ghost use Rattle.std.specs.Prelude.{◌≡◌, length};
 ghost use Rattle.rules.specs.Held.{term_of};
 ghost use Rattle.rules.specs.Terms.{occurs, variant_at};
 
 use galleys::galley::Galley;
 use rules::held::HeldTerm;
 
-// Whether the two have the same bytes.
-fn same_bytes(a: &[u8], b: &[u8]) -> bool
-    ensures { Decides result (a.now ≡ b.now) }
-{
-    a == b
-}
-
 // Whether the text's bytes from `start` on, fetched into the buffer, are these.
 fn stands_at<G: Galley>(galley: &G, bytes: &[u8], start: usize, buffer: &mut [u8]) -> bool
     requires { length buffer.old ≡ length bytes.now }
     ensures value { result ≡ occurs (record { bytes = bytes.now; limit = 0 }) (G.Galley.text galley.now) start }
 {
-    let Ok(()) = galley.fetch(start, buffer) else {
-        return false;
-    };
-    same_bytes(buffer, bytes)
+    galley.fetch(start, buffer).is_ok() && *buffer == *bytes
 }
 
 // The variant of the term at the start.
@@ -30,9 +20,6 @@ pub(super) fn variant_at<G: Galley>(galley: &G, term: &HeldTerm, start: u16) -> 
 {
     let mut buffer = [0u8; 64];
     let bytes = term.bytes();
-    if stands_at(galley, bytes, start as usize, &mut buffer[0..bytes.len()]) {
-        0
-    } else {
-        1
-    }
+    let own = stands_at(galley, bytes, start as usize, &mut buffer[0..bytes.len()]);
+    u8::from(!own)
 }

@@ -10,9 +10,9 @@ use rules::refusal::Refusal;
 impl<M: Matcher, G: Galley> Indexer<M, G> {
     // The term under the number and its units are gone.
     pub fn withdraw(&mut self, number: usize) -> Result<(), Refusal>
-        ensures withdrew { Withdrew M.Matcher.fit G.Galley.text self.old number result self.new }
+        ensures withdrew { Withdrew M.Matcher G.Galley self.old number result self.new }
     {
-        let number = TermNumber::new(number)?;
+        let number = TermNumber::try_from(number)?;
         if self.ledger.terms.term(number).is_none() {
             return Err(Refusal::NoTermStands);
         }

@@ -15,7 +15,7 @@ use matchers::matcher::Matcher;
 impl<M: Matcher, G: Galley> Indexer<M, G> {
     // Does the unit: the matcher is prepared for its term, and the marks of its block are what the matcher finds there.
     fn work(&mut self, unit: Unit)
-        ensures { Did M.Matcher.held M.Matcher.fit G.Galley.text self.old (unit_index unit) self.new }
+        ensures { Did M.Matcher G.Galley self.old (unit_index unit) self.new }
     {
         let standing = self.ledger.terms.term(unit.number);
         let word = look(&mut self.matcher, &self.galley, standing, unit.block);
@@ -24,18 +24,16 @@ impl<M: Matcher, G: Galley> Indexer<M, G> {
 
     // Does up to `u` owed units, lowest block first and there lowest number, and answers how many it did and how many are still owed.
     pub fn run(&mut self, u: usize) -> (usize, usize)
-        ensures called { Called M.Matcher.held M.Matcher.fit G.Galley.text G.Galley.shows self.old (run u) (did result.0 result.1) self.new }
+        ensures called { Called M.Matcher G.Galley self.old (run u) (did result.0 result.1) self.new }
     {
-        let mut done = 0;
         let mut from = 0;
-        while done < u {
+        for done in 0..u {
             let Some(unit) = self.ledger.debts.first(from) else {
-                break;
+                return (done, 0);
             };
             self.work(unit);
             from = unit.block;
-            done += 1;
         }
-        (done, self.ledger.debts.count())
+        (u, self.ledger.debts.count())
     }
 }

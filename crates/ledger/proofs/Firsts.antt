@@ -1,6 +1,6 @@
 -- The first place that passes. Assumes nothing.
-use Rattle.std.proofs.Common.{◌≡◌, ℕ, zero, suc, ◌<◌, ◌≤◌, Bool, true, false, cond, ◌&&◌, leb, Some, None, refl, ap, ◌∙◌, ⊎_elim, arith}
-use Rattle.std.specs.Option.{option_or}
+use Rattle.std.proofs.Common.{◌≡◌, ℕ, zero, suc, ◌<◌, ◌≤◌, Bool, true, false, cond, ◌&&◌, leb, Some, None, Option, refl, sym, subst, ap, ◌∙◌, ⊎_elim, arith}
+use Rattle.std.specs.Option.{option_or, MatchOption}
 use Rattle.std.proofs.lemmas.Bool.{cases_lt, le-leb, lt-leb, and_left, and_right, and_from}
 use Rattle.ledger.specs.Books.{first_from}
 
@@ -36,3 +36,15 @@ first_from-same p q from (suc n) same =
     let before = first_from-same p q from n (λ s l. same s (omega arith)) in
     let here : p n ≡ q n = same n (omega arith) in
     cc
+
+-- what a search from `from` up to `end` found
+module _ (p : ℕ → Bool) (from end : ℕ) where
+  abbrev pub FoundFirst : Option ℕ → Type 0
+  FoundFirst r = MatchOption r ((k : ℕ) → from ≤ k → k < end → p k ≡ false) (λ i. (from ≤ i) × (i < end) × (p i ≡ true) × ((k : ℕ) → from ≤ k → k < i → p k ≡ false))
+
+  pub first_from-found : (r : Option ℕ) → FoundFirst r → r ≡ first_from p from end
+  first_from-found None none = sym (first_from-none p from end none)
+  first_from-found (Some i) (low, high, on, none) = sym (first_from-some p from end i low high on none)
+
+  pub found-below : (r : Option ℕ) (i : ℕ) → FoundFirst r → r ≡ Some i → i < end
+  found-below r i found is = (subst FoundFirst is found).1

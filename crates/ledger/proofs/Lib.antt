@@ -1,3 +1,4 @@
+pub mod Parts
 pub mod Bits
 pub mod Rows
 pub mod Owing

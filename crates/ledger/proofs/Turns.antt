@@ -1,38 +1,22 @@
 -- The last page, and the page of a start. Assumes nothing.
-use Rattle.std.proofs.Common.{◌≡◌, ℕ, zero, suc, ◌+◌, ◌-◌, ◌<◌, ◌≤◌, Bool, true, false, cond, ltb, leb, length, get_or, Some, None, sym, ap, ◌∙◌, ⊎_elim, arith}
-use Rattle.std.proofs.lemmas.List.{length-take-le, get_or-take}
-use Rattle.std.proofs.lemmas.Bool.{cases_eq, lt-ltb, le-ltb, le-leb, lt-leb}
+use Rattle.std.proofs.Common.{◌≡◌, ℕ, zero, suc, ◌+◌, ◌-◌, ◌<◌, ◌≤◌, Bool, true, false, cond, ltb, leb, List, length, get_or, Some, None, sym, ap, ◌∙◌, ⊎_elim, arith}
+use Rattle.std.specs.List.Sorted.{IsNonDecreasing, IsPartitionedBy, IsPartitionPoint}
+use Rattle.std.proofs.lemmas.Bool.{cases_eq, cases_lt, lt-ltb, le-ltb, le-leb, leb-true, true≢false}
 use Rattle.rules.specs.declared.refusal.Refusal.TheVariants.{PageOrder, PagesFull}
-use Rattle.ledger.specs.declared.page_table.Pages.{Pages}
-use Rattle.ledger.specs.Pages.{page_starts, last_start, opening, last_passing, page_at, place_at}
+use Rattle.ledger.specs.Pages.{last_start, opening, last_passing, page_at, place_at}
 
-module _ (p : Pages) where
-  pub length-starts : length (page_starts p) ≡ p.len
-  length-starts = length-take-le p.len p.starts (omega (arith, p.whole, p.most))
+module _ (starts : List ℕ) (at : ℕ) where
+  pub opening-late : at ≤ last_start starts → opening starts at ≡ Some PageOrder
+  opening-late h = ap (λ b. cond b (cond (ltb (length starts) 256) None (Some PagesFull)) (Some PageOrder)) (le-ltb _ _ h)
 
-  pub start-at : (i : ℕ) → i < p.len → get_or (page_starts p) i 0 ≡ get_or p.starts i 0
-  start-at i l = get_or-take p.len p.starts i 0 l
+  pub opening-full : last_start starts < at → 256 ≤ length starts → opening starts at ≡ Some PagesFull
+  opening-full h f = ap (λ b. cond b (cond (ltb (length starts) 256) None (Some PagesFull)) (Some PageOrder)) (lt-ltb _ _ h) ∙ ap (λ b. cond b None (Some PagesFull)) (le-ltb _ _ f)
 
-  pub last-start : last_start (page_starts p) ≡ get_or p.starts (p.len - 1) 0
-  last-start = ap (λ n. get_or (page_starts p) (n - 1) 0) length-starts ∙ start-at (p.len - 1) (omega (arith, p.some))
-
-module _ (p : Pages) (at : ℕ) where
-  opening-is : opening (page_starts p) at ≡ cond (ltb (get_or p.starts (p.len - 1) 0) at) (cond (ltb p.len 256) None (Some PagesFull)) (Some PageOrder)
-  opening-is =
-      ap (λ s. cond (ltb s at) (cond (ltb (length (page_starts p)) 256) None (Some PagesFull)) (Some PageOrder)) (last-start p)
-      ∙ ap (λ n. cond (ltb (get_or p.starts (p.len - 1) 0) at) (cond (ltb n 256) None (Some PagesFull)) (Some PageOrder)) (length-starts p)
-
-  pub opening-late : at ≤ get_or p.starts (p.len - 1) 0 → opening (page_starts p) at ≡ Some PageOrder
-  opening-late h = opening-is ∙ ap (λ b. cond b (cond (ltb p.len 256) None (Some PagesFull)) (Some PageOrder)) (le-ltb _ _ h)
-
-  pub opening-full : get_or p.starts (p.len - 1) 0 < at → 256 ≤ p.len → opening (page_starts p) at ≡ Some PagesFull
-  opening-full h f = opening-is ∙ ap (λ b. cond b (cond (ltb p.len 256) None (Some PagesFull)) (Some PageOrder)) (lt-ltb _ _ h) ∙ ap (λ b. cond b None (Some PagesFull)) (le-ltb _ _ f)
-
-  pub opening-free : get_or p.starts (p.len - 1) 0 < at → p.len < 256 → opening (page_starts p) at ≡ None
-  opening-free h f = opening-is ∙ ap (λ b. cond b (cond (ltb p.len 256) None (Some PagesFull)) (Some PageOrder)) (lt-ltb _ _ h) ∙ ap (λ b. cond b None (Some PagesFull)) (lt-ltb _ _ f)
+  pub opening-free : last_start starts < at → length starts < 256 → opening starts at ≡ None
+  opening-free h f = ap (λ b. cond b (cond (ltb (length starts) 256) None (Some PagesFull)) (Some PageOrder)) (lt-ltb _ _ h) ∙ ap (λ b. cond b None (Some PagesFull)) (lt-ltb _ _ f)
 
 -- the last place that passes
-pub last_passing-at : (q : ℕ → Bool) (n i : ℕ) → i < n → q i ≡ true → ((k : ℕ) → i < k → k < n → q k ≡ false) → last_passing q n ≡ i + 1
+last_passing-at : (q : ℕ → Bool) (n i : ℕ) → i < n → q i ≡ true → ((k : ℕ) → i < k → k < n → q k ≡ false) → last_passing q n ≡ i + 1
 unfolding last_passing
 last_passing-at q zero i l on off = absurd (omega arith)
 last_passing-at q (suc n) i l on off =
@@ -43,17 +27,32 @@ last_passing-at q (suc n) i l on off =
     ∙ last_passing-at q n i (omega (arith, e)) on (λ k a b. off k a (omega arith)))
     (cases_eq i n)
 
--- page i + 1 begins at or before s, and no later page does
-module _ (p : Pages) (s i : ℕ) (l : i < p.len) (on : get_or p.starts i 0 ≤ s) (off : (k : ℕ) → i < k → k < p.len → s < get_or p.starts k 0) where
-  pub page-found : page_at (page_starts p) s ≡ i + 1
-  page-found =
-      last_passing-at (λ k. leb (get_or (page_starts p) k 0) s) (length (page_starts p)) i (omega (arith, length-starts p))
-      (ap (λ x. leb x s) (start-at p i l) ∙ le-leb _ _ on)
-      (λ k a b.
-      let within : k < p.len = omega (arith, length-starts p) in
-      ap (λ x. leb x s) (start-at p k within) ∙ lt-leb _ _ (off k a within))
+-- starts that do not descend are parted by any place of the text
+pub parted : (starts : List ℕ) (s : ℕ) → IsNonDecreasing starts → IsPartitionedBy (λ first. leb first s) starts
+parted starts s up i j d l h on =
+    let low = up i j d l h in
+    let high : get_or starts j d ≤ s = leb-true _ _ on in
+    le-leb _ _ (omega arith)
 
-  pub place_found : place_at (page_starts p) s ≡ s - get_or p.starts i 0
-  place_found =
-      let e : i + 1 - 1 ≡ i = omega arith in
-      ap (λ n. s - get_or (page_starts p) (n - 1) 0) page-found ∙ ap (λ n. s - get_or (page_starts p) n 0) e ∙ ap (λ x. s - x) (start-at p i l)
+-- the first i starts are those at or before s
+module _ (starts : List ℕ) (s i : ℕ) (some : 1 ≤ length starts) (first : get_or starts 0 0 ≡ 0) (within : i ≤ length starts) (point : IsPartitionPoint (λ start. leb start s ≡ true) (λ start. leb start s ≡ false) starts i) where
+  pub point-some : 1 ≤ i
+  point-some =
+      ⊎_elim
+      (λ (none : i < 1). absurd (true≢false (sym (le-leb (get_or starts 0 0) s (omega (arith, first))) ∙ point.1 0 0 (omega arith) (omega arith))))
+      (λ (l : 1 ≤ i). l)
+      (cases_lt i 1)
+
+  pub point-before : get_or starts (i - 1) 0 ≤ s
+  point-before = let l = point-some in leb-true _ _ (point.0 (i - 1) 0 (omega arith) (omega arith))
+
+  pub point-page : i ≡ page_at starts s
+  point-page =
+      let l = point-some in
+      let last =
+      last_passing-at (λ k. leb (get_or starts k 0) s) (length starts) (i - 1) (omega arith) (point.0 (i - 1) 0 (omega arith) (omega arith))
+      (λ k a b. point.1 k 0 (omega arith) b) in
+      omega (arith, last)
+
+  pub point-place : s - get_or starts (i - 1) 0 ≡ place_at starts s
+  point-place = ap (λ n. s - get_or starts (n - 1) 0) point-page

@@ -1,12 +1,12 @@
 -- Which pages are open, and where a start stands in them. Assumes nothing.
-use Rattle.std.specs.Prelude.{ℕ, zero, suc, ◌-◌, Bool, cond, List, length, take, Some, None, Option, nat_le, nat_lt, slice_index}
+use Rattle.std.specs.Prelude.{ℕ, zero, suc, ◌-◌, Bool, cond, List, length, Some, None, Option, nat_le, nat_lt, slice_index}
 use Rattle.rules.specs.declared.refusal.Refusal.{Refusal}
 use Rattle.rules.specs.declared.refusal.Refusal.TheVariants.{PageOrder, PagesFull}
 use Rattle.ledger.specs.declared.page_table.Pages.{Pages}
 
 -- the starts of the open pages, in their order
 abbrev pub page_starts : Pages → List ℕ
-page_starts p = take p.len p.starts
+page_starts p = p.starts.items
 
 -- the start of the last page
 abbrev pub last_start : List ℕ → ℕ

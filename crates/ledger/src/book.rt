@@ -5,6 +5,7 @@ ghost use Rattle.ledger.specs.Books.{Blank, Entered, Settled, Touched, Withdrawn
 ghost use Rattle.ledger.specs.Debts.{owes};
 ghost use Rattle.ledger.specs.Terms.{standing};
 
+use super::change::Change;
 use super::debts::Debts;
 use super::marks::Marks;
 use super::page_table::Pages;
@@ -13,27 +14,28 @@ use super::unit::Unit;
 use rules::held::HeldTerm;
 use rules::numbers::TermNumber;
 
-// The units of the term under the number `n` that the change of `l` bytes from `at` on meets are owed.
-fn touch_one(debts: &mut Debts, terms: &Terms, n: usize, at: u16, l: u8)
-    ensures after { (k b : ℕ) → owes debts.new k b ≡ (if nat_eq k n && (touches (standing terms.now n) at l b && nat_lt b 256) then true else owes debts.old k b) }
+// The units of the term under the number `n` that the change meets are owed.
+fn touch_one(debts: &mut Debts, terms: &Terms, n: usize, change: Change)
+    ensures after { (k b : ℕ) → owes debts.new k b ≡ (if nat_eq k n && (touches (standing terms.now n) change.at change.len b && nat_lt b 256) then true else owes debts.old k b) }
 {
-    let Ok(number) = TermNumber::new(n) else {
+    let Ok(number) = TermNumber::try_from(n) else {
         return;
     };
     let Some(term) = terms.term(number) else {
         return;
     };
-    let first = (at as usize + 1).saturating_sub(term.bytes().len());
-    let last = (at as usize + l as usize).saturating_sub(1);
-    debts.owe(number, first / 64, last / 64 + 1);
+    let at = change.at as usize;
+    let first = (at + 1).saturating_sub(term.bytes().len());
+    let last = (at + change.len as usize).saturating_sub(1);
+    debts.set(number, first / 64, last / 64 + 1, true);
 }
 
 // The same for every number.
-fn touch_all(debts: &mut Debts, terms: &Terms, at: u16, l: u8)
-    ensures after { (n b : ℕ) → owes debts.new n b ≡ (if touches (standing terms.now n) at l b && nat_lt b 256 then true else owes debts.old n b) }
+fn touch_all(debts: &mut Debts, terms: &Terms, change: Change)
+    ensures after { (n b : ℕ) → owes debts.new n b ≡ (if touches (standing terms.now n) change.at change.len b && nat_lt b 256 then true else owes debts.old n b) }
 {
     for n in 0..16 {
-        touch_one(debts, terms, n, at, l);
+        touch_one(debts, terms, n, change);
     }
 }
 
@@ -63,8 +65,8 @@ impl Ledger {
     pub fn enter(&mut self, number: TermNumber, term: HeldTerm, n: usize)
         ensures after { Entered self.old number.value (term_of term) n self.new }
     {
-        self.terms.enter(number, term);
-        self.debts.owe(number, 0, n.div_ceil(64));
+        self.terms.set(number, Some(term));
+        self.debts.set(number, 0, n.div_ceil(64), true);
     }
 
     // No term stands under the number, and none of its units is owed.
@@ -75,11 +77,11 @@ impl Ledger {
         self.debts.set(number, 0, 256, false);
     }
 
-    // Of each term that stands, the units that the change of `l` bytes from `at` on meets are owed.
-    pub fn touch(&mut self, at: u16, l: u8)
-        ensures after { Touched self.old at l self.new }
+    // Of each term that stands, the units that the change meets are owed.
+    pub fn touch(&mut self, change: Change)
+        ensures after { Touched self.old change.at change.len self.new }
     {
-        touch_all(&mut self.debts, &self.terms, at, l);
+        touch_all(&mut self.debts, &self.terms, change);
     }
 
     // The unit is owed no more, and the word, if there is one, has the term's marks at the block.
@@ -96,12 +98,8 @@ impl Ledger {
     pub fn first_listed(&self, number: TermNumber, from: usize, n: usize) -> Option<u16>
         ensures value { result ≡ first_from (listed self.now number.value) from (min n 16384) }
     {
-        for s in from..n.min(16384) {
-            if self.is_listed(number, s) {
-                return Some(s as u16);
-            }
-        }
-        None
+        let start = (from..n.min(16384)).find(|start| self.is_listed(number, *start))?;
+        Some(start as u16)
     }
 
     // Whether the start is listed under the number.

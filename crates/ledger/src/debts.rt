@@ -1,7 +1,7 @@
 // The units that are owed.
 ghost use Rattle.std.specs.Prelude.{◌≡◌, ℕ, false};
 ghost use Rattle.rules.specs.Words.{count};
-ghost use Rattle.ledger.specs.Debts.{owes, owed, Owed, Turned, Cleared, Lowest, FirstOwed};
+ghost use Rattle.ledger.specs.Debts.{owes, owed, Turned, Cleared, Lowest, FirstOwed};
 
 use super::unit::Unit;
 use super::words;
@@ -17,7 +17,7 @@ pub struct Debts {
 fn lowest(word: u16) -> Option<TermNumber>
     ensures value { Lowest word result }
 {
-    TermNumber::new(word.trailing_zeros() as usize).ok()
+    TermNumber::try_from(word.trailing_zeros() as usize).ok()
 }
 
 impl Debts {
@@ -28,20 +28,13 @@ impl Debts {
         Debts { words: [0; 256] }
     }
 
-    // The number's units at the blocks from `from` to before `to` are owed, of the 256 blocks.
-    pub(super) fn owe(&mut self, number: TermNumber, from: usize, to: usize)
-        ensures after { Owed self.old number.value from to self.new }
-    {
-        self.set(number, from, to, true);
-    }
-
-    // The same units are owed or not, as `on` says.
+    // The number's units at the blocks from `from` to before `to`, of the 256 blocks, are owed or not, as `on` says.
     pub(super) fn set(&mut self, number: TermNumber, from: usize, to: usize, on: bool)
         ensures after { Turned self.old number.value from to on self.new }
     {
-        for b in from..to.min(256) {
-            let word = self.words[b];
-            self.words[b] = words::with(word, number, on);
+        let end = to.min(256);
+        for word in &mut self.words[from.min(end)..end] {
+            *word = words::with(*word, number, on);
         }
     }
 
@@ -58,18 +51,21 @@ impl Debts {
     pub(super) fn has(&self, unit: Unit) -> bool
         ensures value { result ≡ owes self.now unit.number.value unit.block }
     {
-        words::has(self.words[unit.block as usize], unit.number)
+        words::has(
+            self.words[unit.block as usize] as u64,
+            usize::from(unit.number),
+        )
     }
 
     // The first unit that is owed, in the order of work, at a block from `from` on.
     pub fn first(&self, from: u8) -> Option<Unit>
         ensures value { FirstOwed self.now from result }
     {
-        for b in from as usize..256 {
-            if let Some(number) = lowest(self.words[b]) {
+        for (i, word) in self.words[from as usize..].iter().enumerate() {
+            if let Some(number) = lowest(*word) {
                 return Some(Unit {
                     number,
-                    block: b as u8,
+                    block: from + i as u8,
                 });
             }
         }

@@ -2,6 +2,7 @@
 #![tactic(auto)]
 
 pub mod book;
+pub mod change;
 pub mod debts;
 pub mod marks;
 pub mod page_table;

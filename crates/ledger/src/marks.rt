@@ -24,10 +24,9 @@ impl Marks {
     pub(super) fn store(&mut self, unit: Unit, word: u64)
         ensures after { Stored self.old unit word self.new }
     {
-        for s in 0..64 {
-            let at = 64 * unit.block as usize + s;
-            let old = self.words[at];
-            self.words[at] = words::with(old, unit.number, words::has_place(word, s));
+        let first = 64 * unit.block as usize;
+        for (s, marks) in self.words[first..first + 64].iter_mut().enumerate() {
+            *marks = words::with(*marks, unit.number, words::has(word, s));
         }
     }
 
@@ -38,6 +37,6 @@ impl Marks {
         if start >= 16384 {
             return false;
         }
-        words::has(self.words[start], number)
+        words::has(self.words[start] as u64, usize::from(number))
     }
 }

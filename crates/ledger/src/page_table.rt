@@ -1,15 +1,18 @@
 // The table of page starts.
-ghost use Rattle.std.specs.Prelude.{◌≡◌, ◌≤◌, length, slice_index};
+ghost use Rattle.std.specs.Prelude.{◌≡◌, ◌≤◌, slice_index};
+ghost use Rattle.arrayvec.specs.ArrayVec.{array_vec_len};
+ghost use Rattle.std.specs.List.Sorted.{IsNonDecreasing};
 
-// starts[0..len] are the starts of the pages that are open; the first page starts at 0.
+use arrayvec::ArrayVec;
+
+// The starts of the pages that are open, ascending; the first page starts at 0.
 #[derive(Drop)]
 pub struct Pages {
-    pub(super) starts: [u16; 256],
-    pub(super) len: usize,
-    ghost whole: { length starts ≡ 256 },
-    ghost some: { 1 ≤ len },
-    ghost most: { len ≤ 256 },
-    ghost first: { slice_index starts 0 ≡ 0 },
+    pub(super) starts: ArrayVec<u16, 256>,
+    ghost some: { 1 ≤ array_vec_len starts },
+    ghost most: { array_vec_len starts ≤ 256 },
+    ghost first: { slice_index starts.items 0 ≡ 0 },
+    ghost ascending: { IsNonDecreasing starts.items },
 }
 
 // A page, counted from 1, and a place in it, counted from 0.

@@ -1,9 +1,10 @@
 // Opening pages, and finding the page of a start.
-ghost use Rattle.std.specs.Prelude.{◌≡◌, false, [], ◌∷◌, ◌++◌, is_ok, if◌then◌else◌};
+ghost use Rattle.std.specs.Prelude.{◌≡◌, ◌-◌, ◌≤◌, false, length, slice_index, [], ◌∷◌, ◌++◌, is_ok, if◌then◌else◌};
 ghost use Rattle.rules.specs.Refusals.{answer_of};
-ghost use Rattle.ledger.specs.Pages.{page_starts, opening, page_at, place_at};
+ghost use Rattle.ledger.specs.Pages.{page_starts, last_start, opening, page_at, place_at};
 
 use super::page_table::{PagePlace, Pages};
+use arrayvec::ArrayVec;
 use rules::refusal::Refusal;
 
 impl Pages {
@@ -11,10 +12,9 @@ impl Pages {
     pub(super) fn new() -> Pages
         ensures value { page_starts result ≡ 0 ∷ [] }
     {
-        Pages {
-            starts: [0; 256],
-            len: 1,
-        }
+        let mut starts = ArrayVec::new();
+        starts.push(0);
+        Pages { starts }
     }
 
     // Opens a page that starts at `at`.
@@ -23,15 +23,33 @@ impl Pages {
         ensures after { page_starts self.new ≡ (if is_ok result then page_starts self.old ++ at ∷ [] else page_starts self.old) }
         ensures same { is_ok result ≡ false → self.new ≡ self.old }
     {
-        if at <= self.starts[self.len - 1] {
+        if self.last_start() >= at {
             return Err(Refusal::PageOrder);
         }
-        if self.len >= 256 {
+        if self.starts.is_full() {
             return Err(Refusal::PagesFull);
         }
-        self.starts[self.len] = at;
-        self.len += 1;
+        self.starts.push(at);
         Ok(())
+    }
+
+    // The start of the last page.
+    fn last_start(&self) -> u16
+        ensures value { result ≡ last_start (page_starts self.now) }
+    {
+        self.starts.as_slice()[self.starts.len() - 1]
+    }
+
+    // The number, counted from 1, of the last page that begins at or before the start.
+    fn number_of(&self, start: u16) -> usize
+        ensures value { result ≡ page_at (page_starts self.now) start }
+        ensures some { 1 ≤ result }
+        ensures most { result ≤ length (page_starts self.now) }
+        ensures before { slice_index (page_starts self.now) (result - 1) ≤ start }
+    {
+        self.starts
+            .as_slice()
+            .partition_point(|first| *first <= start)
     }
 
     // The last page that begins at or before the start, and the start's place in it.
@@ -39,18 +57,10 @@ impl Pages {
         ensures page { result.page ≡ page_at (page_starts self.now) start }
         ensures place { result.place ≡ place_at (page_starts self.now) start }
     {
-        for i in (1..self.len).rev() {
-            let first = self.starts[i];
-            if first <= start {
-                return PagePlace {
-                    page: i as u16 + 1,
-                    place: start - first,
-                };
-            }
-        }
+        let page = self.number_of(start);
         PagePlace {
-            page: 1,
-            place: start,
+            page: page as u16,
+            place: start - self.starts.as_slice()[page - 1],
         }
     }
 }

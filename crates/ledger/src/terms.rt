@@ -1,21 +1,14 @@
 // Entering and reading the terms that stand.
-ghost use Rattle.std.specs.Prelude.{◌≡◌, ℕ, length, if◌then◌else◌, Some, None, nat_eq};
+ghost use Rattle.std.specs.Prelude.{◌≡◌, ℕ, length, if◌then◌else◌, None, nat_eq};
 ghost use Rattle.std.specs.Option.{option_map};
 ghost use Rattle.rules.specs.Held.{term_of};
-ghost use Rattle.ledger.specs.Terms.{row_term, term_at, standing, Stood, Stands};
+ghost use Rattle.ledger.specs.Terms.{row_term, term_at, standing, Stands};
 
 use super::row::{Row, Table, Terms};
 use rules::held::HeldTerm;
 use rules::numbers::TermNumber;
 
 impl Row {
-    // The term stands in the row.
-    fn stand(&mut self, term: HeldTerm)
-        ensures after { row_term self.new ≡ Some (term_of term) }
-    {
-        self.hold(Some(term));
-    }
-
     // The term stands in the row, or none does.
     fn hold(&mut self, term: Option<HeldTerm>)
         ensures after { row_term self.new ≡ option_map term_of term }
@@ -25,21 +18,12 @@ impl Row {
 }
 
 impl Table {
-    // The term stands in the number's row.
-    fn enter(&mut self, number: TermNumber, term: HeldTerm)
-        ensures after { (n : ℕ) → term_at self.new n ≡ (if nat_eq n number.value then Some (term_of term) else term_at self.old n) }
-        ensures len { length self.new.rows ≡ length self.old.rows }
-    {
-        let row = &mut self.rows[number.get()];
-        row.stand(term);
-    }
-
     // The term stands in the number's row, or none does; one row is lent and changed.
     fn set(&mut self, number: TermNumber, term: Option<HeldTerm>)
         ensures after { (n : ℕ) → term_at self.new n ≡ (if nat_eq n number.value then option_map term_of term else term_at self.old n) }
         ensures len { length self.new.rows ≡ length self.old.rows }
     {
-        let row = &mut self.rows[number.get()];
+        let row = &mut self.rows[usize::from(number)];
         row.hold(term);
     }
 }
@@ -60,14 +44,7 @@ impl Terms {
     pub fn term(&self, number: TermNumber) -> Option<HeldTerm>
         ensures value { option_map term_of result ≡ standing self.now number.value }
     {
-        self.table.rows[number.get()].term
-    }
-
-    // The term stands under the number.
-    pub(super) fn enter(&mut self, number: TermNumber, term: HeldTerm)
-        ensures after { Stood self.old number.value (term_of term) self.new }
-    {
-        self.table.enter(number, term);
+        self.table.rows[usize::from(number)].term
     }
 
     // The term stands under the number, or none does.

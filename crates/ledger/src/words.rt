@@ -8,20 +8,13 @@ use rules::numbers::TermNumber;
 pub(super) fn with(word: u16, number: TermNumber, on: bool) -> u16
     ensures value { (j : ℕ) → bit result j ≡ (if nat_eq j number.value then on else bit word j) }
 {
-    let flag = 1u16 << number.get();
+    let flag = 1u16 << usize::from(number);
     let set = word | flag;
     if on { set } else { set ^ flag }
 }
 
-// Whether the number's bit is set.
-pub(super) fn has(word: u16, number: TermNumber) -> bool
-    ensures value { result ≡ bit word number.value }
-{
-    (word >> number.get()) & 1 == 1
-}
-
-// Whether bit `place` of a block's word is set.
-pub(super) fn has_place(word: u64, place: usize) -> bool
+// Whether bit `place` of the word is set.
+pub(super) fn has(word: u64, place: usize) -> bool
     requires { place < 64 }
     ensures value { result ≡ bit word place }
 {

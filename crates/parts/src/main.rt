@@ -24,7 +24,7 @@ fn told(rt: &HostRuntime, action: &str, answer: Result<(), Refusal>) -> anyhow::
     match answer {
         Ok(()) => println!(rt; "{action}: accepted")?,
         Err(refusal) => {
-            let number = refusal.number();
+            let number = u8::from(refusal);
             println!(rt; "{action}: refused {number}")?;
         }
     }

@@ -1,5 +1,5 @@
 -- The numbers of the refusals, and answers that carry one. Assumes nothing.
-use Rattle.std.specs.Prelude.{ℕ, cond, ◌&&◌, Some, None, Ok, Err, Option, Result, nat_le, nat_lt}
+use Rattle.std.specs.Prelude.{ℕ, List, ◌++◌, codes, decimal, cond, ◌&&◌, Some, None, Ok, Err, Option, Result, nat_le, nat_lt}
 use Rattle.rules.specs.declared.refusal.Refusal.{Refusal}
 use Rattle.rules.specs.declared.refusal.Refusal.TheVariants.{NumberTooHigh, TermLength, LimitTooHigh, TermStands, NoTermStands, TermUnfit, PastText, CorrectionLength, TrialOpen, NoSuchTrial, PageOrder, PagesFull, StretchTooLong, NoTermHeld, BufferTooSmall, NotANumber, LineTooShort}
 
@@ -22,6 +22,10 @@ refusal_number NoTermHeld = 14
 refusal_number BufferTooSmall = 15
 refusal_number NotANumber = 16
 refusal_number LineTooShort = 17
+
+-- how a refusal is printed
+abbrev pub refusal_text : Refusal → List ℕ
+refusal_text refusal = codes "refused " ++ decimal (refusal_number refusal)
 
 -- the answer of a call that returns nothing else: the refusal, where there is one
 abbrev pub answer_of : Option Refusal → Result (Unit {0}) Refusal

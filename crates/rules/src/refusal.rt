@@ -1,6 +1,8 @@
 // Why a call is refused.
-ghost use Rattle.std.specs.Prelude.{◌≡◌};
-ghost use Rattle.rules.specs.Refusals.{refusal_number};
+ghost use Rattle.std.specs.Prelude.{◌≡◌, Some};
+ghost use Rattle.rules.specs.Refusals.{refusal_number, refusal_text};
+
+use std::fmt;
 
 // Each case has the number under which it is returned.
 #[derive(Clone, Copy, PartialEq, Eq, Debug)]
@@ -41,11 +43,21 @@ pub enum Refusal {
     LineTooShort = 17,
 }
 
-impl Refusal {
+impl From<Refusal> for u8 {
+    ghost from_gives = { λ refusal n. n ≡ refusal_number refusal };
+
     // The number under which the refusal is returned.
-    pub fn number(self) -> u8
-        ensures value { result ≡ refusal_number self }
-    {
-        self as u8
+    fn from(refusal: Refusal) -> u8 {
+        refusal as u8
+    }
+}
+
+impl fmt::Display for Refusal {
+    ghost output = { λ refusal. Some (refusal_text refusal) };
+
+    // The word 'refused' and the number.
+    fn fmt<W: fmt::Write>(&self, f: &mut fmt::Formatter<W>) -> fmt::Result {
+        let number = u8::from(*self);
+        write!(f, "refused {number}")
     }
 }

@@ -12,10 +12,7 @@ impl HeldTerm {
         ensures cases { Held term.now limit result }
     {
         let m = term.len();
-        if m == 0 {
-            return Err(Refusal::TermLength);
-        }
-        if m > 64 {
+        if m == 0 || m > 64 {
             return Err(Refusal::TermLength);
         }
         if limit >= m {
@@ -45,11 +42,13 @@ impl HeldTerm {
     }
 }
 
-impl TermNumber {
+impl TryFrom<usize> for TermNumber {
+    type Error = Refusal;
+
+    ghost try_from_gives = { Numbered };
+
     // The number, where it is one.
-    pub fn new(number: usize) -> Result<TermNumber, Refusal>
-        ensures cases { Numbered number result }
-    {
+    fn try_from(number: usize) -> Result<TermNumber, Refusal> {
         if number > 15 {
             return Err(Refusal::NumberTooHigh);
         }
@@ -57,11 +56,13 @@ impl TermNumber {
             value: number as u8,
         })
     }
+}
+
+impl From<TermNumber> for usize {
+    ghost from_gives = { λ number n. n ≡ number.value };
 
     // The number as a plain one.
-    pub fn get(self) -> usize
-        ensures value { result ≡ self.value }
-    {
-        self.value as usize
+    fn from(number: TermNumber) -> usize {
+        number.value as usize
     }
 }

@@ -60,7 +60,7 @@ fn show<M: Matcher>(
     match matcher.prepare(term, k) {
         Ok(()) => {}
         Err(refusal) => {
-            let number = refusal.number();
+            let number = u8::from(refusal);
             print!(rt; " r{number}")?;
             return Ok(());
         }
@@ -68,7 +68,7 @@ fn show<M: Matcher>(
     match matcher.scan(stretch) {
         Ok(word) => print!(rt; " {word}")?,
         Err(refusal) => {
-            let number = refusal.number();
+            let number = u8::from(refusal);
             print!(rt; " r{number}")?;
         }
     }
@@ -153,7 +153,7 @@ fn window_states(rt: &HostRuntime, all: &All, stretch: &[u8]) -> anyhow::Result<
                 Ok(Some(state)) => println!(rt; "window {window} step {step}: {state}")?,
                 Ok(None) => println!(rt; "window {window} step {step}: none")?,
                 Err(refusal) => {
-                    let number = refusal.number();
+                    let number = u8::from(refusal);
                     println!(rt; "window {window} step {step}: r{number}")?;
                 }
             }

@@ -38,7 +38,7 @@ fn sum_of(sum: u32, bytes: &[u8]) -> u32 {
 fn number(answer: Result<(), Refusal>) -> u8 {
     match answer {
         Ok(()) => 0,
-        Err(refusal) => refusal.number(),
+        Err(refusal) => u8::from(refusal),
     }
 }
 
@@ -190,7 +190,7 @@ fn holding(rt: &HostRuntime) -> anyhow::Result<()> {
 fn set_word<G: Galley>(galley: &mut G, word: &[u8]) -> u8 {
     for (at, b) in word.iter().enumerate() {
         if let Err(refusal) = galley.put(at, *b) {
-            return refusal.number();
+            return u8::from(refusal);
         }
     }
     0

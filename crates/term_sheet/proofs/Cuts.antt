@@ -1,5 +1,6 @@
 -- A cut and a number field, byte by byte. Assumes nothing.
-use Rattle.std.proofs.Common.{◌≡◌, ℕ, suc, ◌+◌, ◌-◌, ◌*◌, ◌^◌, ◌<◌, ◌≤◌, true, false, cond, eqb, List, [], ◌∷◌, ◌++◌, length, get_or, take, drop, Some, None, sym, refl, ap, ◌∙◌, ⊎_elim, append_assoc, append-nil, arith, pow-add}
+use Rattle.std.proofs.Common.{◌≡◌, ℕ, zero, suc, ◌+◌, ◌-◌, ◌*◌, ◌^◌, ◌<◌, ◌≤◌, true, false, cond, eqb, List, [], ◌∷◌, ◌++◌, length, get_or, take, drop, Some, None, Option, MatchOption, sym, refl, ap, ◌∙◌, ⊎_elim, subst, append_assoc, append-nil, arith, pow-add}
+use Rattle.std.specs.List.{AllWithin, HoldsAt}
 use Rattle.std.proofs.lemmas.List.{take_more, take_all, drop_all, drop_more}
 use Rattle.std.proofs.lemmas.Bool.{eq-eqb, ne_eqb, le-leb, lt-leb, and_from, and_left, and_right, cond-true, cond-false, cases_Bool}
 use Rattle.term_sheet.specs.Fields.{before, behind, is_digit, number_behind, field_value}
@@ -23,6 +24,26 @@ passed-more x bytes i h other p =
       front = p.front ∙ ap (λ (l : List ℕ). take i bytes ++ l) f ∙ sym (ap (λ (l : List ℕ). l ++ before x (drop (i + 1) bytes)) (take_more bytes i 0 h) ∙ append_assoc (take i bytes) (get_or bytes i 0 ∷ []) (before x (drop (i + 1) bytes)));
       back = p.back ∙ b;
     }
+
+-- no x stands before place i
+pub passed-all : (x : ℕ) (bytes : List ℕ) (i : ℕ) → i ≤ length bytes → ((k : ℕ) → k < i → (get_or bytes k 0 ≡ x → ⊥)) → Passed x bytes i
+passed-all x bytes zero l none = passed_none x bytes
+passed-all x bytes (suc i) l none = subst (Passed x bytes) (omega arith) (passed-more x bytes i (omega arith) (none i (omega arith)) (passed-all x bytes i (omega arith) (λ k h. none k (omega arith))))
+
+-- where the first x stands, if there is one
+abbrev pub FirstAt : ℕ → List ℕ → Option ℕ → Type 0
+FirstAt x bytes r =
+    MatchOption r (AllWithin (λ b. b ≡ x → ⊥) bytes 0 (length bytes)) (λ i. (i < length bytes) × HoldsAt (λ b. b ≡ x) bytes i × AllWithin (λ b. b ≡ x → ⊥) bytes 0 i)
+
+pub first-some : (x : ℕ) (bytes : List ℕ) (r : Option ℕ) (i : ℕ) → FirstAt x bytes r → r ≡ Some i → (i < length bytes) × (get_or bytes i 0 ≡ x) × Passed x bytes i
+first-some x bytes r i first is =
+    let f = subst (FirstAt x bytes) is first in
+    (f.0, f.1 0, passed-all x bytes i (omega (arith, f.0)) (λ k h. f.2 k 0 (omega arith) h))
+
+pub first-none : (x : ℕ) (bytes : List ℕ) (r : Option ℕ) → FirstAt x bytes r → r ≡ None → Passed x bytes (length bytes)
+first-none x bytes r first is =
+    let f = subst (FirstAt x bytes) is first in
+    passed-all x bytes (length bytes) (omega arith) (λ k h. f k 0 (omega arith) h)
 
 -- at the first x
 module _ (x : ℕ) (bytes : List ℕ) (i : ℕ) (h : i < length bytes) (here : get_or bytes i 0 ≡ x) (p : Passed x bytes i) where

@@ -11,19 +11,18 @@ cases-option : {A : Type 0} (o : Option A) → (o ≡ None) ⊎ ((x : A) × (o �
 cases-option None = inl refl
 cases-option (Some x) = inr (x, refl)
 
--- empty lines, one byte further
-module _ (bytes : List ℕ) (i : ℕ) (h : i < length bytes) where
-  pub empty-more : get_or bytes i 0 ≡ 10 → empty_lines (drop i bytes) ≡ empty_lines (drop (i + 1) bytes) + 1
-  unfolding empty_lines
-  empty-more feed = ap empty_lines (drop_more bytes i 0 h) ∙ cond-true _ _ _ (eq-eqb _ 10 feed) ∙ omega arith
-
-  pub empty-stops : (get_or bytes i 0 ≡ 10 → ⊥) → empty_lines (drop i bytes) ≡ 0
-  unfolding empty_lines
-  empty-stops other = ap empty_lines (drop_more bytes i 0 h) ∙ cond-false _ _ _ (ne_eqb _ 10 other)
-
-pub empty-all : (bytes : List ℕ) (i : ℕ) → length bytes ≤ i → empty_lines (drop i bytes) ≡ 0
+-- empty lines, byte by byte
+pub empty-nil : empty_lines [] ≡ 0
 unfolding empty_lines
-empty-all bytes i h = ap empty_lines (drop_all i bytes h)
+empty-nil = refl
+
+pub empty-other : (b : ℕ) (bs : List ℕ) → (b ≡ 10 → ⊥) → empty_lines (b ∷ bs) ≡ 0
+unfolding empty_lines
+empty-other b bs other = cond-false _ _ _ (ne_eqb b 10 other)
+
+pub empty-feed : (b : ℕ) (bs : List ℕ) → b ≡ 10 → empty_lines (b ∷ bs) ≡ empty_lines bs + 1
+unfolding empty_lines
+empty-feed b bs feed = cond-true _ _ _ (eq-eqb b 10 feed) ∙ omega arith
 
 -- behind the empty lines another line begins, or the bytes end
 pub empty-le : (bytes : List ℕ) → empty_lines bytes ≤ length bytes

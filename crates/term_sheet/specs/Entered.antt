@@ -1,7 +1,8 @@
 -- What entering a sheet into an indexer answers and leaves. Assumes nothing.
-use Rattle.std.specs.Prelude.{◌≡◌, ℕ, Bool, List, Some, None, Ok, Err, Option, Result}
+use Rattle.std.specs.Prelude.{◌≡◌, ℕ, Bool, Some, None, Ok, Err, Option, Result}
+use Rattle.matchers.specs.declared.matcher.Matcher as matcher
+use Rattle.galleys.specs.declared.galley.Galley as galley
 use Rattle.rules.specs.declared.refusal.Refusal.{Refusal}
-use Rattle.rules.specs.Terms.{Term}
 use Rattle.indexer.specs.declared.index.Indexer.{Indexer}
 use Rattle.indexer.specs.Machine.{Machine, entering, step}
 use Rattle.indexer.specs.Machine.Call.{enter}
@@ -35,19 +36,19 @@ entered_all fit shows m (gives e rest) =
     entry_after m (entering fit m e.number e.limit e.term) (entered_all fit shows (step fit shows m (enter e.number e.limit e.term)) rest)
 
 -- the reading was entered into i, which is left as j
-pub record Entered {M G : Type 0} (fit : M → ℕ → ℕ → Bool) (text : G → List ℕ) (shows : ℕ → ℕ) (i : Indexer M G) (sheet : Reading) (r : Result (Unit {0}) Fault) (j : Indexer M G) : Type 0 where
-  pub answers : r ≡ first_fault (fit i.matcher) shows (view text i) sheet
-  pub follows : view text j ≡ entered_all (fit i.matcher) shows (view text i) sheet
+pub record Entered {M G : Type 0} (matching : matcher.Ghosts M) (holding : galley.Ghosts G) (i : Indexer M G) (sheet : Reading) (r : Result (Unit {0}) Fault) (j : Indexer M G) : Type 0 where
+  pub answers : r ≡ first_fault (matching.fit i.matcher) holding.shows (view holding i) sheet
+  pub follows : view holding j ≡ entered_all (matching.fit i.matcher) holding.shows (view holding i) sheet
   pub matcher : j.matcher ≡ i.matcher
   pub galley : j.galley ≡ i.galley
   pub job : j.job ≡ i.job
-  pub sound : Sound fit text i → Sound fit text j
+  pub sound : Sound matching holding i → Sound matching holding j
 
 -- one entry was entered into i, which is left as j
-pub record EntryEntered {M G : Type 0} (held : M → Option Term) (fit : M → ℕ → ℕ → Bool) (text : G → List ℕ) (shows : ℕ → ℕ) (i : Indexer M G) (e : SheetEntry) (r : Result (Unit {0}) Fault) (j : Indexer M G) : Type 0 where
-  pub answers : r ≡ entry_fault e (entering (fit i.matcher) (view text i) e.number e.limit e.term) (Ok tt)
-  pub follows : view text j ≡ step (fit i.matcher) shows (view text i) (enter e.number e.limit e.term)
+pub record EntryEntered {M G : Type 0} (matching : matcher.Ghosts M) (holding : galley.Ghosts G) (i : Indexer M G) (e : SheetEntry) (r : Result (Unit {0}) Fault) (j : Indexer M G) : Type 0 where
+  pub answers : r ≡ entry_fault e (entering (matching.fit i.matcher) (view holding i) e.number e.limit e.term) (Ok tt)
+  pub follows : view holding j ≡ step (matching.fit i.matcher) holding.shows (view holding i) (enter e.number e.limit e.term)
   pub matcher : j.matcher ≡ i.matcher
   pub galley : j.galley ≡ i.galley
   pub job : j.job ≡ i.job
-  pub sound : Sound fit text i → Sound fit text j
+  pub sound : Sound matching holding i → Sound matching holding j

@@ -15,16 +15,18 @@ fn enter_entry<M: Matcher, G: Galley>(
     indexer: &mut Indexer<M, G>,
     entry: Entry<'_>,
 ) -> Result<(), Fault>
-    ensures entered { EntryEntered M.Matcher.held M.Matcher.fit G.Galley.text G.Galley.shows indexer.old (entry_of entry.entry) result indexer.new }
+    ensures entered { EntryEntered M.Matcher G.Galley indexer.old (entry_of entry.entry) result indexer.new }
 {
-    match indexer.enter(entry.number, entry.limit, entry.term) {
-        Ok(()) => Ok(()),
-        Err(cause) => Err(Fault::Indexer {
-            line: entry.line,
-            byte: entry.byte,
-            cause,
-        }),
-    }
+    let Entry {
+        line,
+        byte,
+        number,
+        limit,
+        term,
+    } = entry;
+    indexer
+        .enter(number, limit, term)
+        .map_err(|cause| Fault::Indexer { line, byte, cause })
 }
 
 // Enters the sheet's entries in their order, up to the first fault; what was entered before a fault stays entered.
@@ -32,7 +34,7 @@ pub fn enter_sheet<M: Matcher, G: Galley>(
     indexer: &mut Indexer<M, G>,
     sheet: &[u8],
 ) -> Result<(), Fault>
-    ensures entered { Entered M.Matcher.fit G.Galley.text G.Galley.shows indexer.old (sheet_reading sheet.now) result indexer.new }
+    ensures entered { Entered M.Matcher G.Galley indexer.old (sheet_reading sheet.now) result indexer.new }
 {
     let mut reader = Reader::new(sheet);
     while let Some(entry) = reader.next()? {

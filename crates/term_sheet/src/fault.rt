@@ -26,12 +26,10 @@ impl fmt::Display for Fault {
     fn fmt<W: fmt::Write>(&self, f: &mut fmt::Formatter<W>) -> fmt::Result {
         match *self {
             Fault::Sheet { line, byte, cause } => {
-                let number = cause.number();
-                write!(f, "sheet line {line} byte {byte} refused {number}")
+                write!(f, "sheet line {line} byte {byte} {cause}")
             }
             Fault::Indexer { line, byte, cause } => {
-                let number = cause.number();
-                write!(f, "indexer line {line} byte {byte} refused {number}")
+                write!(f, "indexer line {line} byte {byte} {cause}")
             }
         }
     }

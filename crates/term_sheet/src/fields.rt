@@ -8,22 +8,17 @@ pub(super) fn cut(bytes: &[u8], x: u8) -> (&[u8], Option<&[u8]>)
     ensures front { result.0.now ≡ before x bytes.now }
     ensures back { option_map (λ x. x.now) result.1 ≡ behind x bytes.now }
 {
-    for (i, b) in bytes.iter().enumerate() {
-        if *b == x {
-            return (&bytes[0..i], Some(&bytes[i + 1..bytes.len()]));
-        }
+    match bytes.iter().position(|b| *b == x) {
+        Some(i) => (&bytes[..i], Some(&bytes[i + 1..])),
+        None => (bytes, None),
     }
-    (bytes, None)
 }
 
 // The number that a field of 1 to 3 digits writes.
 pub(super) fn field_value(field: &[u8]) -> Option<usize>
     ensures value { result ≡ field_value field.now }
 {
-    if field.is_empty() {
-        return None;
-    }
-    if field.len() > 3 {
+    if field.is_empty() || field.len() > 3 {
         return None;
     }
     let mut value = 0;

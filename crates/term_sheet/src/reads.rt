@@ -30,7 +30,7 @@ impl<'a> Reader<'a> {
         ensures same { sheet_of self.new ≡ sheet_of self.old }
     {
         let sheet = self.sheet;
-        let empty = empty_lines(&sheet[self.at..sheet.len()]);
+        let empty = empty_lines(&sheet[self.at..]);
         let at = self.at + empty;
         if at >= sheet.len() {
             return Ok(None);
@@ -49,12 +49,10 @@ fn empty_lines(bytes: &[u8]) -> usize
     ensures value { result ≡ empty_lines bytes.now }
     ensures bound { result ≤ length bytes.now }
 {
-    for (i, b) in bytes.iter().enumerate() {
-        if *b != b'\n' {
-            return i;
-        }
-    }
-    bytes.len()
+    bytes
+        .iter()
+        .position(|b| *b != b'\n')
+        .unwrap_or(bytes.len())
 }
 
 // The bytes of the line that begins at `at`, and where the next one begins.
@@ -64,7 +62,7 @@ fn line_at(sheet: &[u8], at: usize) -> (&[u8], usize)
     ensures after { result.1 ≡ next_line sheet.now at }
     ensures bound { at + length result.0.now ≤ length sheet.now }
 {
-    let (bytes, behind) = cut(&sheet[at..sheet.len()], b'\n');
+    let (bytes, behind) = cut(&sheet[at..], b'\n');
     match behind {
         Some(rest) => (bytes, sheet.len() - rest.len()),
         None => (bytes, sheet.len()),

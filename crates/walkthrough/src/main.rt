@@ -16,7 +16,7 @@ fn told(rt: &HostRuntime, action: &str, answer: Result<(), Refusal>) -> anyhow::
     match answer {
         Ok(()) => println!(rt; "{action}: accepted")?,
         Err(refusal) => {
-            let number = refusal.number();
+            let number = u8::from(refusal);
             println!(rt; "{action}: refused {number}")?;
         }
     }
@@ -37,7 +37,7 @@ fn locate(rt: &HostRuntime, book: &Book, number: usize, from: usize) -> anyhow::
         Ok(Some(locator)) => println!(rt; "{locator:?}")?,
         Ok(None) => println!(rt; "none")?,
         Err(refusal) => {
-            let refused = refusal.number();
+            let refused = u8::from(refusal);
             println!(rt; "refused {refused}")?;
         }
     }
@@ -63,7 +63,7 @@ fn try_matcher(rt: &HostRuntime, matcher: &mut Comparer) -> anyhow::Result<()> {
     let fits_not = matcher.fits(65, 0);
     println!(rt; "fits 64 bytes with limit 63: {fits}; 65 bytes: {fits_not}")?;
     if let Err(refusal) = matcher.scan(b"The the tHe") {
-        let number = refusal.number();
+        let number = u8::from(refusal);
         println!(rt; "scan with no term held: refused {number}")?;
     }
     told(rt, "prepare an empty term", matcher.prepare(b"", 0))?;
@@ -73,7 +73,7 @@ fn try_matcher(rt: &HostRuntime, matcher: &mut Comparer) -> anyhow::Result<()> {
         println!(rt; "scan 'The the tHe': word {word}")?;
     }
     if let Err(refusal) = matcher.scan(&[0u8; 128]) {
-        let number = refusal.number();
+        let number = u8::from(refusal);
         println!(rt; "scan 128 bytes: refused {number}")?;
     }
     Ok(())

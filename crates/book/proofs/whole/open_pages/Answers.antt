@@ -7,7 +7,7 @@ use Rattle.book.proofs.whole.open_pages.Goals as goal
 
 pub loop-at-preserved : goal.loop-at-preserved
 loop-at-preserved g c =
-    going_more g.M.Matcher.held g.M.Matcher.fit g.G.Galley.text g.G.Galley.shows c.args.indexer.now c.args.starts.now c.loop-at.indexer c.loop-at.at-index _ _ c.page.new.self
+    going_more g.M.Matcher g.G.Galley c.args.indexer.now c.args.starts.now c.loop-at.indexer c.loop-at.at-index _ _ c.page.new.self
     (omega arith) refl c.loop-at.invariant c.page.ensures.called
 
 pub returns : goal.returns
@@ -15,12 +15,11 @@ returns g c =
     let i = c.args.indexer.now in
     let j = c.loop-at.indexer in
     let fit = g.M.Matcher.fit i.matcher in
-    let text = g.G.Galley.text in
     let shows = g.G.Galley.shows in
     let inv = c.loop-at.invariant in
     record {
       opened = record {
-        follows = sym (inv.follows ∙ at_drop_all (λ xs. opened fit shows (view text j) xs) c.args.starts.now c.loop-at.at-index (omega arith));
+        follows = sym (inv.follows ∙ at_drop_all (λ xs. opened fit shows (view g.G.Galley j) xs) c.args.starts.now c.loop-at.at-index (omega arith));
         matcher = inv.matcher;
         galley = inv.galley;
         job = inv.job;

@@ -1,4 +1,5 @@
-use Rattle.std.proofs.Common.{◌≡◌, ℕ, ◌/◌, ◌%◌, ◌<◌, ap, ◌∙◌, subst}
+use Rattle.std.proofs.Common.{◌≡◌, ℕ, ◌/◌, ◌%◌, ◌<◌, List, get_or, ap, ◌∙◌, subst, arith}
+use Rattle.std.specs.Int.{to_be_bytes, w32}
 use Rattle.galleys.specs.Packing.{group, recoded_group}
 use Rattle.galleys.proofs.Codes.{recoded-written}
 use Rattle.galleys.proofs.packing.recode.Goals as goal
@@ -9,4 +10,9 @@ returns c =
     let at = c.args.at in
     let is : c.group_of.result ≡ group old (at / 4) = c.group_of.ensures.value in
     let v : c.recoded_group-group.result ≡ recoded_group (group old (at / 4)) (at % 4) c.args.code = c.recoded_group-group.ensures.value ∙ ap (λ x. recoded_group x (at % 4) c.args.code) is in
-    record { recoded = recoded-written old at c.args.code c.recoded_group-group.result c.requires.0 c.requires.1 (subst (λ (x : ℕ). x < 16777216) is c.group_of.ensures.bound) v }
+    let new = c.recoded_group-group.result in
+    let byte : (i : ℕ) → get_or c.to_be_bytes.result i 0 ≡ get_or (to_be_bytes w32 new) i 0 = λ i. ap (λ (xs : List ℕ). get_or xs i 0) c.to_be_bytes.ensures in
+    let high : get_or c.to_be_bytes.result 1 0 ≡ new / 65536 = byte 1 ∙ omega (arith, c.recoded_group-group.ensures.bound) in
+    let middle : get_or c.to_be_bytes.result 2 0 ≡ new / 256 % 256 = byte 2 ∙ omega arith in
+    let low : get_or c.to_be_bytes.result 3 0 ≡ new % 256 = byte 3 ∙ omega arith in
+    record { recoded = rw (high, middle, low) (recoded-written old at c.args.code new c.requires.0 c.requires.1 (subst (λ (x : ℕ). x < 16777216) is c.group_of.ensures.bound) v) }

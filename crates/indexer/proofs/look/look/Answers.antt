@@ -1,4 +1,4 @@
-use Rattle.std.proofs.Common.{◌≡◌, ℕ, ◌+◌, ◌-◌, ◌*◌, ◌<◌, ◌≤◌, min, ◌⊎◌, length, Some, refl, ap, ◌∙◌, inl, inr, ⊎_elim, arith, length-take}
+use Rattle.std.proofs.Common.{◌≡◌, ℕ, ◌+◌, ◌-◌, ◌*◌, ◌<◌, ◌≤◌, min, ◌⊎◌, length, true, is_ok, Some, ap, ◌∙◌, inl, inr, ⊎_elim, rules, arith, length-take}
 use Rattle.std.specs.Option.{option_map}
 use Rattle.std.proofs.lemmas.Bool.{cases_lt}
 use Rattle.rules.specs.Held.{term_of}
@@ -9,17 +9,18 @@ use Rattle.indexer.proofs.look.look.Goals as goal
 pub returns : goal.returns
 returns g c =
     let text = g.G.Galley.text c.args.galley.now in
-    let h = c.in-Some.term in
+    let h = c.in_ok-term.term in
     let o = option_map term_of c.args.standing in
-    let row : o ≡ Some (term_of h) = ap (option_map term_of) c.in-Some.is in
+    let row : o ≡ Some (term_of h) = ap (option_map term_of) c.in_ok-term.was in
     let bytes = c.bytes-bytes.ensures.value in
     let limit = c.limit.ensures.value in
-    let prepared = c.in-Ok.ensures.prepared.holds refl in
+    let accepted : is_ok c.prepare.result ≡ true = search rules in
+    let prepared = c.prepare.ensures.prepared.holds accepted in
     let own : g.M.Matcher.held c.prepare.new.self ≡ Some (term_of h) = cc in
     let holds : (t : Term) → o ≡ Some t → g.M.Matcher.held c.prepare.new.self ≡ Some t = λ t e. own ∙ ap Some (some_same (term_of h) t o row e) in
     record {
       looked = record {
-        fits = c.in-Ok.ensures.prepared.fits;
+        fits = c.prepare.ensures.prepared.fits;
         holds = λ t e fit start. holds t e;
         word = λ t e fit start.
             let len = c.min-len.result in

@@ -1,5 +1,5 @@
-use Rattle.std.proofs.Common.{◌≡◌, map, take}
+use Rattle.std.proofs.Common.{◌≡◌, ◌++◌, map, take, drop}
 use Rattle.indexer.proofs.shown.hold_shown.Given as goal
 
-abbrev pub invariant-loop-i : goal.invariant-loop-i
-invariant-loop-i g l = take l.i l.shown ≡ map g.G.Galley.shows (take l.i l.term)
+abbrev pub invariant-loop-b : goal.invariant-loop-b
+invariant-loop-b g l = l.shown ≡ map g.G.Galley.shows (take l.b-index l.term) ++ drop l.b-index l.term

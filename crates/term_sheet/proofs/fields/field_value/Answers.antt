@@ -1,14 +1,16 @@
-use Rattle.std.proofs.Common.{◌≡◌, true, false, get_or, sym, ◌∙◌, arith}
+use Rattle.std.proofs.Common.{◌≡◌, true, false, get_or, sym, ◌∙◌, rules, arith}
 use Rattle.std.proofs.lemmas.Bool.Decides.{nat_tests}
 use Rattle.term_sheet.specs.Fields.{is_digit}
 use Rattle.term_sheet.proofs.Cuts.{number_more, number-stops, number-all, number-below, field-within, field-empty, field-long}
 use Rattle.term_sheet.proofs.fields.field_value.Goals as goal
+use Rattle.term_sheet.proofs.fields.field_value.Goals.{then-is_empty-via-then-is_empty, then-is_empty-via-else-is_empty+then-field-gt3}
 
 pub returns-then-is_empty : goal.returns-then-is_empty
-returns-then-is_empty c = record { value = sym (field-empty c.args.field.now (grind (arith, nat_tests))) }
-
-pub returns-then-field-gt3 : goal.returns-then-field-gt3
-returns-then-field-gt3 c = record { value = sym (field-long c.args.field.now (omega arith)) }
+returns-then-is_empty c =
+    elim c.then-is_empty.branch [
+      | then-is_empty-via-then-is_empty w ↦ record { value = sym (field-empty c.args.field.now (search rules)) }
+      | then-is_empty-via-else-is_empty+then-field-gt3 w ↦ record { value = sym (field-long c.args.field.now (omega arith)) }
+    ]
 
 pub returns-then-not-is_ascii_digit : goal.returns-then-not-is_ascii_digit
 returns-then-not-is_ascii_digit c =

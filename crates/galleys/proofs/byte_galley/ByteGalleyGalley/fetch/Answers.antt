@@ -1,6 +1,6 @@
-use Rattle.std.proofs.Common.{◌≡◌, ◌+◌, ◌-◌, min, length, take, drop, vec_items, refl, ap, ◌∙◌, arith, length-take}
+use Rattle.std.proofs.Common.{◌≡◌, ◌+◌, ◌-◌, min, length, take, drop, vec_items, ap, ◌∙◌, arith, length-take}
 use Rattle.galleys.specs.Byte.{byte_text}
-use Rattle.galleys.proofs.Calls.{fetched-all, fetched-none}
+use Rattle.galleys.proofs.Calls.{fetched-all}
 use Rattle.galleys.proofs.Parts.{part_of}
 use Rattle.galleys.proofs.byte_galley.ByteGalleyGalley.fetch.Goals as goal
 
@@ -14,16 +14,8 @@ returns c =
     let read = c.copy_from_slice.ensures.after ∙ ap (λ xs. take (c.args.at + l - c.args.at) (drop c.args.at xs)) c.deref.ensures.value in
     record { fetched = fetched-all (byte_text s) c.args.at c.args.buffer.now _ (omega arith) (read ∙ part_of 16384 items c.args.at l (omega arith) (omega arith)) }
 
-pub returns-then-l-n : goal.returns-then-l-n
-returns-then-l-n c =
-    let s = c.args.self.now in
-    let size = s.buffer.ok.0 in
-    let n = length-take 16384 (vec_items s.buffer) in
-    record { fetched = fetched-none (byte_text s) c.args.at c.args.buffer.now _ (omega arith) refl }
-
-pub returns-then-at-n : goal.returns-then-at-n
-returns-then-at-n c =
-    let s = c.args.self.now in
-    let size = s.buffer.ok.0 in
-    let n = length-take 16384 (vec_items s.buffer) in
-    record { fetched = fetched-none (byte_text s) c.args.at c.args.buffer.now _ (omega arith) refl }
+pub slice_bounds-copy_from_slice-end : goal.slice_bounds-copy_from_slice-end
+slice_bounds-copy_from_slice-end c =
+    let size = c.args.self.now.buffer.ok.0 in
+    let n = length-take 16384 (vec_items c.args.self.now.buffer) in
+    omega (arith, c.length-n.ensures.value, c.deref.ensures.len)

@@ -1,17 +1,11 @@
-use Rattle.std.proofs.Common.{◌≡◌, ℕ, ◌+◌, ◌-◌, false, List, length, set, vec_items, sym, refl, ap, ◌∙◌, subst, arith}
+use Rattle.std.proofs.Common.{◌≡◌, ℕ, ◌+◌, ◌-◌, List, length, set, vec_items, sym, ap, ◌∙◌, subst, arith}
 use Rattle.std.specs.Vec.{with_items}
 use Rattle.std.proofs.lemmas.List.{with_items_is}
-use Rattle.std.proofs.lemmas.Bool.{both_ways}
 use Rattle.galleys.specs.Packing.{six_length, Recoded}
 use Rattle.galleys.specs.SixBit.{six_text, six_shown}
-use Rattle.galleys.proofs.Calls.{put_one, put-none}
+use Rattle.galleys.proofs.Calls.{put_one}
 use Rattle.galleys.proofs.Codes.{length-text, shown-coded, text-recoded}
 use Rattle.galleys.proofs.six_bit_galley.SixBitGalleyGalley.put.Goals as goal
-
-pub returns-then-at-length : goal.returns-then-at-length
-returns-then-at-length c =
-    let s = c.args.self.now in
-    record { put = put-none six_text s c.args.at (six_shown c.args.b) s (omega (arith, c.length.ensures.value)) refl; buffer = λ no. absurd (both_ways false refl no) }
 
 pub recode-requires : goal.recode-requires
 recode-requires c =

@@ -1,4 +1,4 @@
-use Rattle.std.proofs.Common.{◌≡◌, ℕ, ◌-◌, ◌*◌, ◌<◌, ◌≤◌, false}
+use Rattle.std.proofs.Common.{◌≡◌, ℕ, ◌*◌, ◌<◌, ◌≤◌, false}
 use Rattle.rules.specs.Words.{count}
 use Rattle.ledger.specs.Debts.{owed}
 use Rattle.indexer.specs.Works.{Ran}
@@ -9,7 +9,4 @@ abbrev pub invariant-loop-done : goal.invariant-loop-done
 invariant-loop-done g l =
     (l.done ≤ l.u) × (l.done ≤ count (owed l.initial.self.ledger.debts) 4096)
     × ((x : ℕ) → x < 16 * l.from → owed l.self.ledger.debts x ≡ false)
-    × Ran g.M.Matcher.held g.M.Matcher.fit g.G.Galley.text l.initial.self l.done l.self
-
-abbrev pub decreases-loop-done : goal.decreases-loop-done
-decreases-loop-done g l = l.u - l.done
+    × Ran g.M.Matcher g.G.Galley l.initial.self l.done l.self

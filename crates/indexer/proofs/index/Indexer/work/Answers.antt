@@ -20,7 +20,7 @@ returns g c =
       pages = settled.pages;
       fits = looked.fits;
       owes = settled-owed i.ledger c.settle.new.self u c.look-word.result settled;
-      holds = λ right on. done-holds g.M.Matcher.held fit i.matcher c.look-word.new.matcher text i.ledger u c.look-word.result right on (option_map term_of c.term-standing.result) row looked;
+      holds = λ right on. done-holds g.M.Matcher i.matcher c.look-word.new.matcher text i.ledger u c.look-word.result right on (option_map term_of c.term-standing.result) row looked;
       sound = settled-right (fit i.matcher) (fit c.look-word.new.matcher) text i.ledger c.settle.new.self u c.look-word.result looked.fits settled
           (λ t stands. looked.word t (row ∙ stands));
     }

@@ -1,7 +1,8 @@
-use Rattle.std.proofs.Common.{◌≡◌, ℕ, ◌/◌, ◌%◌, cond, ◌&&◌, eqb, ltb}
+use Rattle.std.proofs.Common.{◌≡◌, ℕ, cond, ◌&&◌, eqb, ltb, length, get_or}
 use Rattle.rules.specs.Words.{bit}
-use Rattle.ledger.specs.Marks.{marked}
 use Rattle.ledger.proofs.marks.Marks.store.Given as goal
 
 abbrev pub invariant-loop-s : goal.invariant-loop-s
-invariant-loop-s l = (n s : ℕ) → marked l.self n s ≡ cond (eqb n l.unit.number.value && (eqb (s / 64) l.unit.block && ltb (s % 64) l.s)) (bit l.word (s % 64)) (marked l.initial.self n s)
+invariant-loop-s l =
+    (length l.marks-items ≡ 64)
+    × ((n k : ℕ) → bit (get_or l.marks-items k 0) n ≡ cond (eqb n l.unit.number.value && ltb k l.s) (bit l.word k) (bit (get_or l.initial.marks-items k 0) n))

@@ -6,7 +6,7 @@ pub returns : goal.returns
 returns c = record {
   after = λ n.
       let t = c.args.self.now in
-      let at : eqb n c.get.result ≡ eqb n c.args.number.value = ap (eqb n) c.get.ensures.value in
-      term-set t.rows c.get.result c.hold.new.self n (omega arith) ∙ cc;
+      let at : eqb n c.from.result ≡ eqb n c.args.number.value = ap (eqb n) c.from.ensures in
+      term-set t.rows c.from.result c.hold.new.self n (omega arith) ∙ cc;
   len = simp length-set;
 }
