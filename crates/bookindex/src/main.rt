@@ -8,15 +8,28 @@ use indexer::index::Indexer;
 use matchers::comparer::Comparer;
 use rules::locator::Locator;
 use std::fs::File;
-use std::io;
 use std::io::Read;
 use std::process::ExitCode;
+use std::{fmt, io};
 
-// A locator and the number of its term.
+// A line of the index: a locator and the number of its term.
 #[derive(Clone, Copy)]
 struct Line {
     number: usize,
     locator: Locator,
+}
+
+impl fmt::Display for Line {
+    fn fmt<W: fmt::Write>(&self, f: &mut fmt::Formatter<W>) -> fmt::Result {
+        let Line { number, locator } = *self;
+        let Locator {
+            page,
+            place,
+            variant,
+            ..
+        } = locator;
+        write!(f, "{number} {page} {place} {variant}")
+    }
 }
 
 // The first `most` bytes of the file.
@@ -73,14 +86,7 @@ fn print_index(
     let locators = lines.len();
     println!(rt; "owed {owed} terms {terms} locators {locators}")?;
     for line in lines.iter() {
-        let Line { number, locator } = *line;
-        let Locator {
-            page,
-            place,
-            variant,
-            ..
-        } = locator;
-        println!(rt; "{number} {page} {place} {variant}")?;
+        println!(rt; "{line}")?;
     }
     Ok(())
 }

@@ -8,6 +8,9 @@ use matchers::comparer::Comparer;
 use rules::locator::Locator;
 use rules::refusal::Refusal;
 use std::alloc::{AllocError, Global};
+use std::ops::Range;
+use telling::answers::code;
+use telling::sums::{drawn, mixed};
 use term_sheet::enters::enter_sheet;
 
 type Book = Indexer<Comparer, ByteGalley>;
@@ -18,7 +21,7 @@ fn make_text(heap: Global, n: usize) -> Result<Vec<u8>, AllocError> {
     let mut text = Vec::new(heap);
     let mut seed = 1u32;
     for _ in 0..n {
-        seed = seed.wrapping_mul(1103515245).wrapping_add(12345);
+        seed = drawn(seed);
         text.push(letters[(seed >> 16) as usize % 6])?;
     }
     Ok(text)
@@ -39,10 +42,7 @@ fn told(
     number: usize,
     answer: Result<(), Refusal>,
 ) -> anyhow::Result<()> {
-    let refused = match answer {
-        Ok(()) => 0,
-        Err(refusal) => u8::from(refusal),
-    };
+    let refused = code(answer);
     println!(rt; "{action} {number}: {refused}")?;
     Ok(())
 }
@@ -54,22 +54,20 @@ struct Short<'a> {
     bytes: &'a [u8],
 }
 
-// Enters the terms one after the other, from the number on.
+// Enters the terms one after the other, under these numbers.
 fn enter_all(
     rt: &HostRuntime,
     book: &mut Book,
-    from: usize,
+    numbers: Range<usize>,
     terms: &[Short],
 ) -> anyhow::Result<()> {
-    let mut number = from;
-    for term in terms {
+    for (number, term) in numbers.zip(terms) {
         told(
             rt,
             "enter",
             number,
             book.enter(number, term.limit, term.bytes),
         )?;
-        number = number.saturating_add(1);
     }
     Ok(())
 }
@@ -79,7 +77,7 @@ fn enter_terms(rt: &HostRuntime, book: &mut Book, end: &[u8]) -> anyhow::Result<
     enter_all(
         rt,
         book,
-        0,
+        0..8,
         &[
             Short {
                 limit: 0,
@@ -118,7 +116,7 @@ fn enter_terms(rt: &HostRuntime, book: &mut Book, end: &[u8]) -> anyhow::Result<
     enter_all(
         rt,
         book,
-        8,
+        8..17,
         &[
             Short {
                 limit: 0,
@@ -160,11 +158,6 @@ fn enter_terms(rt: &HostRuntime, book: &mut Book, end: &[u8]) -> anyhow::Result<
     )
 }
 
-// One more value into a running sum.
-fn mixed(sum: u32, value: u16) -> u32 {
-    sum.wrapping_mul(31).wrapping_add(value as u32)
-}
-
 // Prints how many locators the term has and their running sum; each of them too where the text is short.
 fn list(rt: &HostRuntime, book: &Book, number: usize, each: bool) -> anyhow::Result<()> {
     let mut count = 0u32;
@@ -183,7 +176,9 @@ fn list(rt: &HostRuntime, book: &Book, number: usize, each: bool) -> anyhow::Res
         if each {
             println!(rt; "{number}: {start} {page} {place} {variant}")?;
         }
-        sum = mixed(mixed(mixed(mixed(sum, start), page), place), variant as u16);
+        for value in [start, page, place, variant as u16] {
+            sum = mixed(sum, value as u32);
+        }
         count = count.wrapping_add(1);
         from = start as usize + 1;
     }
@@ -194,8 +189,8 @@ fn list(rt: &HostRuntime, book: &Book, number: usize, each: bool) -> anyhow::Res
 // Opens a page at every 60th place, up to the 300th of them.
 fn page_all(heap: Global, book: &mut Book) -> Result<(), AllocError> {
     let mut starts = Vec::new(heap);
-    for i in 1..=300usize {
-        starts.push(i * 60)?;
+    for start in (60..=18000).step_by(60) {
+        starts.push(start)?;
     }
     open_pages(book, starts.as_slice());
     Ok(())

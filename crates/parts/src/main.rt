@@ -14,34 +14,20 @@ use matchers::comparer::Comparer;
 use matchers::matcher::Matcher;
 use rules::declined::Declined;
 use rules::locator::Locator;
-use rules::refusal::Refusal;
 use shifts::shift_and::ShiftAnd;
 use shifts::shift_or::ShiftOr;
+use telling::answers::told;
 use windows::two_way::TwoWayShiftOr;
-
-// Prints an action and whether it was accepted.
-fn told(rt: &HostRuntime, action: &str, answer: Result<(), Refusal>) -> anyhow::Result<()> {
-    match answer {
-        Ok(()) => println!(rt; "{action}: accepted")?,
-        Err(refusal) => {
-            let number = u8::from(refusal);
-            println!(rt; "{action}: refused {number}")?;
-        }
-    }
-    Ok(())
-}
 
 // Puts the heading into the galley, byte by byte, and prints what it then fetches.
 fn set_heading<G: Galley>(rt: &HostRuntime, name: &str, galley: &mut G) -> anyhow::Result<()> {
     let mut answer = Ok(());
     for (at, b) in b"REASON and rule.".iter().enumerate() {
-        if let Err(refusal) = galley.put(at, *b) {
-            answer = Err(refusal);
-        }
+        answer = answer.and(galley.put(at, *b));
     }
-    told(rt, name, answer)?;
+    println!(rt; "{}", told(name, answer))?;
     let mut text = [0u8; 16];
-    told(rt, "fetch 16 bytes", galley.fetch(0, &mut text))?;
+    println!(rt; "{}", told("fetch 16 bytes", galley.fetch(0, &mut text)))?;
     print!(rt; "the text is '")?;
     for b in text {
         let letter = b as char;
@@ -75,9 +61,12 @@ fn scan_block<M: Matcher>(
     matcher: &mut M,
     galley: &ByteGalley,
 ) -> anyhow::Result<()> {
-    told(rt, name, matcher.prepare(b"rule", 0))?;
+    println!(rt; "{}", told(name, matcher.prepare(b"rule", 0)))?;
     let mut stretch = [0u8; 67];
-    told(rt, "fetch the block", galley.fetch(0, &mut stretch))?;
+    println!(rt;
+        "{}",
+        told("fetch the block", galley.fetch(0, &mut stretch))
+    )?;
     if let Ok(word) = matcher.scan(&stretch) {
         println!(rt; "scan for 'rule': word {word}")?;
     }

@@ -8,50 +8,30 @@ use layers::folded::FoldedGalley;
 use layers::paste_up::PasteUp;
 use rules::refusal::Refusal;
 use std::alloc::{AllocError, Global};
+use telling::answers::code;
+use telling::sums::{drawn, sum_of};
 
 // A buffer of n bytes of all values.
 fn make_buffer(heap: Global, n: usize) -> Result<Vec<u8>, AllocError> {
     let mut buffer = Vec::new(heap);
     let mut seed = 7u32;
     for _ in 0..n {
-        seed = seed.wrapping_mul(1103515245).wrapping_add(12345);
+        seed = drawn(seed);
         buffer.push((seed >> 16 & 255) as u8)?;
     }
     Ok(buffer)
 }
 
-// One more byte into a running sum.
-fn mixed(sum: u32, b: u8) -> u32 {
-    sum.wrapping_mul(31).wrapping_add(b as u32)
-}
-
-// The running sum of the bytes.
-fn sum_of(sum: u32, bytes: &[u8]) -> u32 {
-    let mut sum = sum;
-    for b in bytes {
-        sum = mixed(sum, *b);
-    }
-    sum
-}
-
-// The number of an answer: 0, or the refusal's.
-fn number(answer: Result<(), Refusal>) -> u8 {
-    match answer {
-        Ok(()) => 0,
-        Err(refusal) => u8::from(refusal),
-    }
-}
-
-// The number that a fetch of `l` bytes answers.
-fn fetch_number<G: Galley>(galley: &G, at: usize, l: usize) -> u8 {
+// What a fetch of `l` bytes answers.
+fn try_fetch<G: Galley>(galley: &G, at: usize, l: usize) -> Result<(), Refusal> {
     let mut buffer = [0u8; 127];
-    number(galley.fetch(at, &mut buffer[0..l.min(127)]))
+    galley.fetch(at, &mut buffer[..l.min(127)])
 }
 
 // The running sum with the `l` bytes of the text from `at` on, at most 127.
 fn sum_part<G: Galley>(galley: &G, sum: u32, at: usize, l: usize) -> u32 {
     let mut buffer = [0u8; 127];
-    let part = &mut buffer[0..l.min(127)];
+    let part = &mut buffer[..l.min(127)];
     match galley.fetch(at, part) {
         Ok(()) => sum_of(sum, part),
         Err(_) => sum,
@@ -62,11 +42,8 @@ fn sum_part<G: Galley>(galley: &G, sum: u32, at: usize, l: usize) -> u32 {
 fn sum_text<G: Galley>(galley: &G) -> u32 {
     let n = galley.length();
     let mut sum = 0;
-    for i in 0..130 {
-        let at = i * 127;
-        if at < n {
-            sum = sum_part(galley, sum, at, n - at);
-        }
+    for at in (0..n).step_by(127) {
+        sum = sum_part(galley, sum, at, n - at);
     }
     sum
 }
@@ -78,9 +55,9 @@ fn put_all<G: Galley>(galley: &mut G) -> u32 {
     for b in 0..=255u8 {
         let at = b as usize * 61 % n;
         let mut read = [0u8; 1];
-        sum = mixed(sum, number(galley.put(at, b)));
-        sum = mixed(sum, number(galley.fetch(at, &mut read)));
-        sum = mixed(mixed(sum, read[0]), galley.show(b));
+        let put = code(galley.put(at, b));
+        let fetched = code(galley.fetch(at, &mut read));
+        sum = sum_of(sum, &[put, fetched, read[0], galley.show(b)]);
     }
     sum
 }
@@ -100,11 +77,11 @@ fn ends<G: Galley>(rt: &HostRuntime, galley: &mut G) -> anyhow::Result<()> {
         (usize::MAX, 0),
         (usize::MAX, 1),
     ] {
-        let answer = fetch_number(galley, at, l);
+        let answer = code(try_fetch(galley, at, l));
         print!(rt; " {answer}")?;
     }
-    let past = number(galley.put(n, b'a'));
-    let far = number(galley.put(usize::MAX, b'a'));
+    let past = code(galley.put(n, b'a'));
+    let far = code(galley.put(usize::MAX, b'a'));
     println!(rt; " {past} {far}")?;
     Ok(())
 }
@@ -173,8 +150,8 @@ fn holding(rt: &HostRuntime) -> anyhow::Result<()> {
     let mut paste_up = PasteUp::new(ByteGalley::new(make_buffer(rt.alloc(), 100)?));
     print!(rt; "held:")?;
     for at in 0..40 {
-        let answer = number(paste_up.put(at * 2, b'*'));
-        let again = number(paste_up.put(at * 2, b'+'));
+        let answer = code(paste_up.put(at * 2, b'*'));
+        let again = code(paste_up.put(at * 2, b'+'));
         let held = paste_up.held();
         print!(rt; " {answer}{again}{held}")?;
     }
@@ -186,14 +163,12 @@ fn holding(rt: &HostRuntime) -> anyhow::Result<()> {
     back(rt, paste_up.into_below().into_buffer())
 }
 
-// Puts the word at the galley's start.
-fn set_word<G: Galley>(galley: &mut G, word: &[u8]) -> u8 {
+// Puts the word at the galley's start, up to the first refusal.
+fn set_word<G: Galley>(galley: &mut G, word: &[u8]) -> Result<(), Refusal> {
     for (at, b) in word.iter().enumerate() {
-        if let Err(refusal) = galley.put(at, *b) {
-            return u8::from(refusal);
-        }
+        galley.put(at, *b)?;
     }
-    0
+    Ok(())
 }
 
 // Prints the bytes as numbers.
@@ -209,15 +184,15 @@ fn print_bytes(rt: &HostRuntime, name: &str, bytes: &[u8]) -> anyhow::Result<()>
 // How one word is packed, and how one stands folded.
 fn words(rt: &HostRuntime) -> anyhow::Result<()> {
     let mut six = SixBitGalley::new([255u8; 4].to_vec(rt.alloc())?);
-    let refused = set_word(&mut six, b"cat\t");
+    let refused = code(set_word(&mut six, b"cat\t"));
     println!(rt; "put 'cat' and a tab: {refused}")?;
     let buffer = six.into_buffer();
     print_bytes(rt, "packed", buffer.as_slice())?;
     let mut folded = FoldedGalley::new(ByteGalley::new([0u8; 4].to_vec(rt.alloc())?));
-    let refused = set_word(&mut folded, b"KANT");
+    let refused = code(set_word(&mut folded, b"KANT"));
     println!(rt; "put 'KANT': {refused}")?;
     let mut text = [0u8; 4];
-    let answer = number(folded.fetch(0, &mut text));
+    let answer = code(folded.fetch(0, &mut text));
     println!(rt; "fetch: {answer}")?;
     print_bytes(rt, "folded", &text)
 }

@@ -6,22 +6,10 @@ use galleys::galley::Galley;
 use indexer::index::Indexer;
 use matchers::comparer::Comparer;
 use matchers::matcher::Matcher;
-use rules::refusal::Refusal;
+use telling::answers::told;
 use term_sheet::enters::enter_sheet;
 
 type Book = Indexer<Comparer, ByteGalley>;
-
-// Prints an action and whether it was accepted.
-fn told(rt: &HostRuntime, action: &str, answer: Result<(), Refusal>) -> anyhow::Result<()> {
-    match answer {
-        Ok(()) => println!(rt; "{action}: accepted")?,
-        Err(refusal) => {
-            let number = u8::from(refusal);
-            println!(rt; "{action}: refused {number}")?;
-        }
-    }
-    Ok(())
-}
 
 // Prints what a run did and left.
 fn run(rt: &HostRuntime, book: &mut Book, units: usize) -> anyhow::Result<()> {
@@ -36,10 +24,7 @@ fn locate(rt: &HostRuntime, book: &Book, number: usize, from: usize) -> anyhow::
     match book.locator(number, from) {
         Ok(Some(locator)) => println!(rt; "{locator:?}")?,
         Ok(None) => println!(rt; "none")?,
-        Err(refusal) => {
-            let refused = u8::from(refusal);
-            println!(rt; "refused {refused}")?;
-        }
+        Err(refusal) => println!(rt; "{refusal}")?,
     }
     Ok(())
 }
@@ -49,12 +34,19 @@ fn read_galley(rt: &HostRuntime, galley: &mut ByteGalley) -> anyhow::Result<()> 
     let length = galley.length();
     println!(rt; "galley: {length} bytes")?;
     let mut word = [0u8; 6];
-    told(rt, "fetch 6 bytes at 4", galley.fetch(4, &mut word))?;
+    println!(rt;
+        "{}",
+        told("fetch 6 bytes at 4", galley.fetch(4, &mut word))
+    )?;
     let [first, .., last] = word;
     println!(rt; "the first is {first}, the last {last}")?;
-    told(rt, "fetch 6 bytes at 111", galley.fetch(111, &mut word))?;
-    told(rt, "put a semicolon at 26", galley.put(26, b';'))?;
-    told(rt, "put a semicolon at 116", galley.put(116, b';'))
+    println!(rt;
+        "{}",
+        told("fetch 6 bytes at 111", galley.fetch(111, &mut word))
+    )?;
+    println!(rt; "{}", told("put a semicolon at 26", galley.put(26, b';')))?;
+    println!(rt; "{}", told("put a semicolon at 116", galley.put(116, b';')))?;
+    Ok(())
 }
 
 // The matcher by itself: what fits it, what it holds and finds.
@@ -63,18 +55,25 @@ fn try_matcher(rt: &HostRuntime, matcher: &mut Comparer) -> anyhow::Result<()> {
     let fits_not = matcher.fits(65, 0);
     println!(rt; "fits 64 bytes with limit 63: {fits}; 65 bytes: {fits_not}")?;
     if let Err(refusal) = matcher.scan(b"The the tHe") {
-        let number = u8::from(refusal);
-        println!(rt; "scan with no term held: refused {number}")?;
+        println!(rt; "scan with no term held: {refusal}")?;
     }
-    told(rt, "prepare an empty term", matcher.prepare(b"", 0))?;
-    told(rt, "prepare 'the' with limit 3", matcher.prepare(b"the", 3))?;
-    told(rt, "prepare 'the' with limit 1", matcher.prepare(b"the", 1))?;
+    println!(rt;
+        "{}",
+        told("prepare an empty term", matcher.prepare(b"", 0))
+    )?;
+    println!(rt;
+        "{}",
+        told("prepare 'the' with limit 3", matcher.prepare(b"the", 3))
+    )?;
+    println!(rt;
+        "{}",
+        told("prepare 'the' with limit 1", matcher.prepare(b"the", 1))
+    )?;
     if let Ok(word) = matcher.scan(b"The the tHe") {
         println!(rt; "scan 'The the tHe': word {word}")?;
     }
     if let Err(refusal) = matcher.scan(&[0u8; 128]) {
-        let number = u8::from(refusal);
-        println!(rt; "scan 128 bytes: refused {number}")?;
+        println!(rt; "scan 128 bytes: {refusal}")?;
     }
     Ok(())
 }
@@ -90,9 +89,9 @@ struct Wanted<'a> {
 
 // Pages and terms, accepted and refused.
 fn set_up(rt: &HostRuntime, book: &mut Book) -> anyhow::Result<()> {
-    told(rt, "page at 49", book.page(49))?;
-    told(rt, "page at 49 again", book.page(49))?;
-    told(rt, "page at 116", book.page(116))?;
+    println!(rt; "{}", told("page at 49", book.page(49)))?;
+    println!(rt; "{}", told("page at 49 again", book.page(49)))?;
+    println!(rt; "{}", told("page at 116", book.page(116)))?;
     let terms = [
         Wanted {
             action: "enter 3: 'reason' with limit 1",
@@ -126,11 +125,8 @@ fn set_up(rt: &HostRuntime, book: &mut Book) -> anyhow::Result<()> {
         },
     ];
     for wanted in terms {
-        told(
-            rt,
-            wanted.action,
-            book.enter(wanted.number, wanted.limit, wanted.term),
-        )?;
+        let answer = book.enter(wanted.number, wanted.limit, wanted.term);
+        println!(rt; "{}", told(wanted.action, answer))?;
     }
     Ok(())
 }
