@@ -4,9 +4,6 @@ ghost use Rattle.galleys.specs.Galleys.{Showing, Text, Fetched, Put};
 
 use rules::refusal::Refusal;
 
-// The most bytes that a text can have.
-pub(super) const MOST: usize = 16384;
-
 // A galley means a text of at most 16,384 bytes; its kind fixes what it shows for each byte that is put.
 pub trait Galley {
     // the bytes it holds, place by place from 0

@@ -1,9 +1,9 @@
 // The ways in which a text is held.
 #![tactic(auto)]
 
+mod buffered;
 pub mod byte;
-pub mod byte_galley;
+mod encoding;
 pub mod galley;
 mod packing;
 pub mod six_bit;
-pub mod six_bit_galley;

@@ -1,5 +1,0 @@
-use Rattle.std.proofs.Common.{arith, length-take}
-use Rattle.galleys.proofs.byte_galley.ByteGalleyGalley.length.Goals as goal
-
-pub returns : goal.returns
-returns c = record { value = simp length-take (omega (arith, c.args.self.now.buffer.ok.0)) }
