@@ -14,11 +14,11 @@ use Rattle.index_file.specs.Records.Record.{head, term, locator, end}
 abbrev pub fits : ℕ → ℕ → ℕ → Bool
 fits at l room = nat_le (at + l) (min room 4294967295)
 
--- bytes placed from `at` on where they fit, and how far they reach; where they do not, all stays as it was
-abbrev pub Placed : ℕ → List ℕ → List ℕ → Result ℕ Refusal → List ℕ → Type 0
-Placed at bytes old answer new =
-    MatchResult answer (λ reach. (at + length bytes ≤ min (length old) 4294967295) × (reach ≡ at + length bytes) × (new ≡ paste old at bytes (length bytes)))
-    (λ e. (min (length old) 4294967295 < at + length bytes) × (e ≡ BufferTooSmall) × (new ≡ old))
+-- bytes placed from `at` on where they fit, the state with how far they reach; where they do not, all stays as it was
+abbrev pub Placed : {S : Type 0} → S → ℕ → List ℕ → List ℕ → Result (S × ℕ) (Declined S) → List ℕ → Type 0
+Placed state at bytes old answer new =
+    MatchResult answer (λ t. (at + length bytes ≤ min (length old) 4294967295) × (t.0 ≡ state) × (t.1 ≡ at + length bytes) × (new ≡ paste old at bytes (length bytes)))
+    (λ d. (min (length old) 4294967295 < at + length bytes) × (d.refusal ≡ BufferTooSmall) × (d.back ≡ state) × (new ≡ old))
 
 -- why a record is not written: a term that is empty or over 64 bytes, then one that does not fit the rest of the buffer
 abbrev pub well_formed : Record → Option Refusal

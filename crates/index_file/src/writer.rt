@@ -24,16 +24,9 @@ impl Unheaded {
     pub fn head(self, buffer: &mut [u8], given: Head) -> Result<Headed, Declined<Unheaded>>
         ensures written { Written self 0 (head given.n given.owed given.terms) (Reaches 12 0) buffer.old result buffer.new }
     {
-        match place(buffer, self.at, &head_bytes(given)) {
-            Ok(at) => {
-                let Unheaded { at: _ } = self;
-                Ok(Headed { at, locators: 0 })
-            }
-            Err(refusal) => Err(Declined {
-                refusal,
-                back: self,
-            }),
-        }
+        let at = self.at;
+        let (Unheaded { at: _ }, at) = place(self, at, buffer, &head_bytes(given))?;
+        Ok(Headed { at, locators: 0 })
     }
 }
 
@@ -49,50 +42,31 @@ impl Headed {
                 back: self,
             });
         }
-        match place(buffer, self.at, &term_bytes(given)[0..6 + m]) {
-            Ok(at) => {
-                let Headed { at: _, locators } = self;
-                Ok(Headed { at, locators })
-            }
-            Err(refusal) => Err(Declined {
-                refusal,
-                back: self,
-            }),
-        }
+        let at = self.at;
+        let bytes = term_bytes(given);
+        let (Headed { at: _, locators }, at) = place(self, at, buffer, &bytes[0..6 + m])?;
+        Ok(Headed { at, locators })
     }
 
     // Writes a locator, which the file's end will count.
     pub fn locator(self, buffer: &mut [u8], given: Locator) -> Result<Headed, Declined<Headed>>
         ensures written { Written self self.at (locator given.start given.page given.place given.variant) (Reaches (self.at + 11) (self.locators + 1)) buffer.old result buffer.new }
     {
-        match place(buffer, self.at, &locator_bytes(given)) {
-            Ok(at) => {
-                let Headed { at: _, locators } = self;
-                Ok(Headed {
-                    at,
-                    locators: locators + 1,
-                })
-            }
-            Err(refusal) => Err(Declined {
-                refusal,
-                back: self,
-            }),
-        }
+        let at = self.at;
+        let (Headed { at: _, locators }, at) = place(self, at, buffer, &locator_bytes(given))?;
+        Ok(Headed {
+            at,
+            locators: locators + 1,
+        })
     }
 
     // Writes the end, with the number of locators; the file's length.
     pub fn end(self, buffer: &mut [u8]) -> Result<usize, Declined<Headed>>
         ensures written { Written self self.at (end self.locators) (λ l. l ≡ self.at + 8) buffer.old result buffer.new }
     {
-        match place(buffer, self.at, &end_bytes(self.locators)) {
-            Ok(length) => {
-                let Headed { at: _, locators: _ } = self;
-                Ok(length)
-            }
-            Err(refusal) => Err(Declined {
-                refusal,
-                back: self,
-            }),
-        }
+        let at = self.at;
+        let bytes = end_bytes(self.locators);
+        let (Headed { at: _, locators: _ }, length) = place(self, at, buffer, &bytes)?;
+        Ok(length)
     }
 }
