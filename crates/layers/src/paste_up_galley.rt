@@ -3,7 +3,6 @@ ghost use Rattle.std.specs.Prelude.{◌≡◌, ℕ, ◌+◌, ◌≤◌, true, Li
 ghost use Rattle.galleys.specs.Galleys.{Put};
 ghost use Rattle.layers.specs.Pasted.{Laid, Pasting, over, paste_list, pasted_text};
 ghost use Rattle.layers.specs.PastedTexts.{over-text};
-ghost use Rattle.std.proofs.Common.{rules};
 
 use super::paste::Paste;
 use super::paste_up::PasteUp;
@@ -84,7 +83,7 @@ impl<G: Galley> Galley for PasteUp<G> {
 
     ghost shows = { G.Galley.shows };
 
-    ghost showing = { Prim.search rules };
+    ghost showing = { G.Galley.showing };
 
     ghost texts = { λ s. over-text G.Galley.shows (G.Galley.text s.below) G.Galley.showing (G.Galley.texts s.below) (paste_list s.pastes) };
 
