@@ -1,11 +1,11 @@
 -- Pasted bytes over a text, by the meaning of what is below alone. Assumes nothing.
-use Rattle.std.specs.Prelude.{◌≡◌, ℕ, suc, ◌+◌, ◌-◌, ◌<◌, ◌≤◌, Bool, true, false, cond, List, [], ◌∷◌, ◌++◌, length, take, drop, set, ◌==◌, slice_set, refl, not, position, Some, None, Option, is_some, nat_lt}
+use Rattle.std.specs.Prelude.{◌≡◌, ℕ, ◌+◌, ◌-◌, ◌<◌, ◌≤◌, Bool, true, false, cond, List, [], ◌∷◌, ◌++◌, length, take, drop, set, ◌==◌, slice_set, refl, not, position, Some, None, Option, is_some}
 use Rattle.std.specs.List.{prefix_len}
 use Rattle.std.proofs.Common.{sym, ap, ◌∙◌, ⊎_elim, arith, length-take, length-drop}
 use Rattle.std.proofs.lemmas.List.{append_assoc, set-set, set_comm, drop-set-lt, drop-set-add, take-set-le}
 use Rattle.std.proofs.lemmas.List.Folds.{length-prefix_len}
-use borrow.Author.Tests.{ltb-true, ltb-false}
-use Rattle.std.proofs.lemmas.Bool.{cases_Bool, cases_eq, eq-eqb, ne_eqb, eqb-false, cond-true, cond-false}
+use Rattle.std.proofs.lemmas.Bool.Decides.{nat_tests}
+use Rattle.std.proofs.lemmas.Bool.{cases_Bool}
 use Rattle.galleys.proofs.Parts.{take-set-in}
 use Rattle.layers.specs.declared.paste.Paste.{Paste}
 use Rattle.layers.specs.PastedTexts.{length_over}
@@ -14,31 +14,13 @@ use Rattle.layers.specs.Pasted.{Pasting, first_at, is_full, paste_in, over}
 abbrev one : ℕ → ℕ → Paste
 one at b = record { at = at; byte = b }
 
--- the first of them has the place, or it has not
-module _ (p : Paste) (ps : List Paste) (at b : ℕ) where
-  hit : p.at ≡ at → (first_at (p ∷ ps) at ≡ 0) × (paste_in (p ∷ ps) at b ≡ one at b ∷ ps)
-  hit e =
-      let t = eq-eqb p.at at e in
-      (ap (λ t. cond (not t) (1 + first_at ps at) 0) t, cond-true (p.at == at) (one at b ∷ ps) (p ∷ paste_in ps at b) t)
-
-  miss : (p.at ≡ at → ⊥) → (first_at (p ∷ ps) at ≡ 1 + first_at ps at) × (paste_in (p ∷ ps) at b ≡ p ∷ paste_in ps at b)
-  miss d =
-      let t = ne_eqb p.at at d in
-      (ap (λ t. cond (not t) (1 + first_at ps at) 0) t, cond-false (p.at == at) (one at b ∷ ps) (p ∷ paste_in ps at b) t)
-
 module _ (shows : ℕ → ℕ) (text : List ℕ) where
   -- one more pasted
   pub over-pasted : (ps : List Paste) (at b : ℕ) → over shows text (paste_in ps at b) ≡ slice_set (over shows text ps) at (shows b)
   over-pasted [] at b = refl
-  over-pasted (p ∷ ps) at b = ⊎_elim
-      (λ (e : p.at ≡ at).
-      ap (over shows text) (hit p ps at b e).1
-      ∙ sym (set-set (over shows text ps) at (shows p.byte) (shows b)) ∙ ap (λ k. set (slice_set (over shows text ps) k (shows p.byte)) at (shows b)) (sym e))
-      (λ (d : p.at ≡ at → ⊥).
-      ap (over shows text) (miss p ps at b d).1
-      ∙ ap (λ xs. set xs p.at (shows p.byte)) (over-pasted ps at b)
-      ∙ set_comm (over shows text ps) at p.at (shows b) (shows p.byte) (λ e. d (sym e)))
-      (cases_eq p.at at)
+  over-pasted (p ∷ ps) at b =
+      let more = over-pasted ps at b in
+      grind (arith, nat_tests, set-set, set_comm)
 
 -- one pasted byte more, from the last to the first
 pub one-more : (ps rest next done : List Paste) (p : Paste) → ps ≡ rest ++ done → rest ≡ next ++ p ∷ [] → ps ≡ next ++ (p ∷ done)
@@ -50,64 +32,46 @@ first-le ps at =
     let q : Paste → Bool = λ p. not (p.at == at) in
     omega (arith, length-prefix_len q ps, length-take (prefix_len q ps) ps)
 
-taken : (i n : ℕ) (t : Bool) → Some i ≡ cond t (Some n) None → (i ≡ n) × (t ≡ true)
-taken i n true e = (cc, refl)
-taken i n false e = absurd (cc)
-
-left_out : (n : ℕ) (t : Bool) → None ≡ cond t (Some n) None → t ≡ false
-left_out n true e = absurd (cc)
-left_out n false e = refl
-
 -- where the place was found, and where it was not
 pub found : (ps : List Paste) (at i : ℕ) → Some i ≡ position (λ p. p.at == at) ps → (i ≡ first_at ps at) × (i < length ps)
-found ps at i e =
-    let s = taken i (first_at ps at) (nat_lt (first_at ps at) (length ps)) e in
-    (s.0, omega (arith, s.0, ltb-true (first_at ps at) (length ps) s.1))
+found ps at i e = grind (arith, nat_tests)
 
 pub found-none : (ps : List Paste) (at : ℕ) → None ≡ position (λ p. p.at == at) ps → first_at ps at ≡ length ps
 found-none ps at e =
-    let past = ltb-false (first_at ps at) (length ps) (left_out (first_at ps at) (nat_lt (first_at ps at) (length ps)) e) in
-    omega (arith, first-le ps at)
+    let le = first-le ps at in
+    grind (arith, nat_tests)
 
 -- whether they are full
 pub full-none : (ps : List Paste) (at : ℕ) (o : Option ℕ) (b : Bool) → length ps ≡ 32 → o ≡ position (λ p. p.at == at) ps → is_some o ≡ not b → b ≡ is_full ps at
 full-none ps at None b l e n =
     let f = found-none ps at e in
-    let t : b ≡ true = grind arith in
-    t ∙ sym (eq-eqb (first_at ps at) 32 (f ∙ l))
+    grind (arith, nat_tests)
 full-none ps at (Some i) b l e n =
     let f = found ps at i e in
-    let t : b ≡ false = grind arith in
-    t ∙ sym (ne_eqb (first_at ps at) 32 (λ k. omega (arith, f.0, f.1)))
+    grind (arith, nat_tests)
 
 pub full-room : (ps : List Paste) (at : ℕ) → length ps ≤ 32 → (length ps ≡ 32 → ⊥) → false ≡ is_full ps at
-full-room ps at l d = sym (ne_eqb (first_at ps at) 32 (λ k. d (omega (arith, first-le ps at))))
+full-room ps at l d =
+    let le = first-le ps at in
+    grind (arith, nat_tests)
 
 pub roomy : (ps : List Paste) (at : ℕ) → length ps ≤ 32 → is_full ps at ≡ false → None ≡ position (λ p. p.at == at) ps → length ps < 32
 roomy ps at l room e =
-    let d : first_at ps at ≡ 32 → ⊥ = eqb-false (first_at ps at) 32 room in
-    let d2 : length ps ≡ 32 → ⊥ = λ k. d (found-none ps at e ∙ k) in
-    omega arith
-
-one-add : (n : ℕ) → 1 + n ≡ suc n
-one-add n = omega arith
+    let f = found-none ps at e in
+    grind (arith, nat_tests)
 
 -- what pasting does to the list
 pub paste-found : (ps : List Paste) (at b : ℕ) → first_at ps at < length ps → paste_in ps at b ≡ slice_set ps (first_at ps at) (one at b)
 paste-found [] at b l = absurd (omega arith)
-paste-found (p ∷ ps) at b l = ⊎_elim
-    (λ (e : p.at ≡ at). let h = hit p ps at b e in h.1 ∙ sym (ap (λ k. set (p ∷ ps) k (one at b)) h.0))
-    (λ (d : p.at ≡ at → ⊥).
-    let m = miss p ps at b d in
-    m.1 ∙ ap (λ xs. p ∷ xs) (paste-found ps at b (omega arith)) ∙ sym (ap (λ k. set (p ∷ ps) k (one at b)) (m.0 ∙ one-add (first_at ps at))))
-    (cases_eq p.at at)
+paste-found (p ∷ ps) at b l =
+    let more = paste-found ps at b in
+    grind (arith, nat_tests)
 
 pub paste-added : (ps : List Paste) (at b : ℕ) → first_at ps at ≡ length ps → paste_in ps at b ≡ ps ++ one at b ∷ []
 paste-added [] at b l = refl
-paste-added (p ∷ ps) at b l = ⊎_elim
-    (λ (e : p.at ≡ at). let h = hit p ps at b e in absurd (omega arith))
-    (λ (d : p.at ≡ at → ⊥). let m = miss p ps at b d in m.1 ∙ ap (λ xs. p ∷ xs) (paste-added ps at b (omega arith)))
-    (cases_eq p.at at)
+paste-added (p ∷ ps) at b l =
+    let more = paste-added ps at b in
+    grind (arith, nat_tests)
 
 -- a part of a text in which one byte was set
 pub part-set-in : (text : List ℕ) (at l q x : ℕ) → at + l ≤ length text → at ≤ q → q - at < l → take l (drop at (slice_set text q x)) ≡ slice_set (take l (drop at text)) (q - at) x
