@@ -1,5 +1,4 @@
 // Bytes written into a lent buffer.
-ghost use Rattle.std.specs.Prelude.{length};
 ghost use Rattle.index_file.specs.Files.{Placed};
 
 use rules::declined::Declined;

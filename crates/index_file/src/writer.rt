@@ -2,7 +2,6 @@
 ghost use Rattle.std.specs.Prelude.{◌≡◌, ◌+◌, length};
 ghost use Rattle.index_file.specs.Files.{Reaches, Written};
 ghost use Rattle.index_file.specs.Records.Record.{head, term, locator, end};
-ghost use Rattle.index_file.specs.Records.{encoded};
 
 use super::encoding::{end_bytes, head_bytes, locator_bytes, term_bytes};
 use super::placing::place;

@@ -1,5 +1,5 @@
 // The paste-up's text and its calls.
-ghost use Rattle.std.specs.Prelude.{◌≡◌, ℕ, ◌+◌, ◌≤◌, true, List, [], length, is_ok};
+ghost use Rattle.std.specs.Prelude.{◌≡◌, true, [], length, is_ok};
 ghost use Rattle.galleys.specs.Galleys.{Put};
 ghost use Rattle.layers.specs.Pasted.{Laid, Pasting, over, paste_list, pasted_text};
 ghost use Rattle.layers.specs.PastedTexts.{over-text};
