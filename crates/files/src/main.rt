@@ -1,250 +1,207 @@
 // Writes index files record by record into buffers of every length, and prints what was refused and what stands in the buffers. What it prints is held to a plain C encoder in reference/.
 #![tactic(auto)]
 
-ghost use Rattle.std.specs.Prelude.{◌+◌, ◌≤◌};
+ghost use Rattle.std.specs.Prelude.{◌≡◌, ◌+◌, ◌<◌, ◌≤◌, min, length, IfErr};
+ghost use Rattle.files.specs.Steps.{Grows, Tried};
 
 use index_file::record::{Head, Term};
 use index_file::state::{Headed, Unheaded};
 use rules::declined::Declined;
 use rules::locator::Locator;
+use rules::refusal::Refusal;
+use telling::sums::sum_of;
 
-// Writes the head into the buffer or, where that is refused, into the spare one. Notes the refusal.
-fn start(
-    begun: Unheaded,
-    buffer: &mut [u8],
-    spare: &mut [u8; 1024],
-    given: Head,
-    note: &mut u8,
-) -> Headed
-    ensures reach { result.at ≤ 12 }
-{
-    match begun.head(buffer, given) {
-        Ok(file) => file,
-        Err(declined) => {
-            let Declined { refusal, back } = declined;
-            *note = u8::from(refusal);
-            match back.head(spare, given) {
-                Ok(file) => file,
-                Err(_) => unreachable(),
-            }
+// What stands between a file's head and its end.
+#[derive(Clone, Copy)]
+enum Entry<'a> {
+    Term(Term<'a>),
+    Locator(Locator),
+}
+
+// A file that is to be written: its name, its head and its entries.
+#[derive(Clone, Copy)]
+struct Plan<'a> {
+    name: &'a str,
+    head: Head,
+    entries: [Entry<'a>; 6],
+}
+
+// The buffer that a file is written into, and the spare one for the records that are refused there.
+#[derive(Drop)]
+struct Buffers<'a> {
+    buffer: &'a mut [u8],
+    spare: [u8; 1024],
+}
+
+impl Buffers<'_> {
+    // Takes a step of a file in the buffer or, where that is refused, in the spare one; what it was refused with in the buffer.
+    fn step<S, T, F: Fn(S, &mut [u8]) -> Result<T, Declined<S>>>(
+        &mut self,
+        state: S,
+        step: F,
+    ) -> (Result<T, Declined<S>>, Option<Refusal>)
+        requires { F.IsAlwaysCallable step }
+        ensures tried { Tried F.Fn step state self.old.buffer.now self.old.spare result.0 result.1 }
+    {
+        match step(state, self.buffer) {
+            Ok(next) => (Ok(next), None),
+            Err(Declined { refusal, back }) => (step(back, &mut self.spare), Some(refusal)),
         }
+    }
+
+    // Writes the head.
+    fn start(&mut self, begun: Unheaded, given: Head) -> (Headed, Option<Refusal>)
+        ensures reach { result.0.at ≤ 12 }
+    {
+        let (answer, refusal) = self.step(begun, |begun: Unheaded, lent| begun.head(lent, given));
+        match answer {
+            Ok(file) => (file, refusal),
+            Err(_) => unreachable!(),
+        }
+    }
+
+    // Writes an entry; a term that is none is left out.
+    fn add(&mut self, file: Headed, entry: Entry<'_>) -> (Headed, Option<Refusal>)
+        ensures reach { result.0.at ≤ file.at + 70 }
+    {
+        let (answer, refusal) = self.step(file, |file: Headed, lent| entered(file, lent, entry));
+        match answer {
+            Ok(file) => (file, refusal),
+            Err(Declined { refusal: _, back }) => (back, refusal),
+        }
+    }
+
+    // Writes the end; the file's length.
+    fn finish(&mut self, file: Headed) -> (usize, Option<Refusal>)
+        requires { file.at ≤ 1016 }
+    {
+        let (answer, refusal) = self.step(file, |file: Headed, lent| ended(file, lent));
+        match answer {
+            Ok(length) => (length, refusal),
+            Err(_) => unreachable!(),
+        }
+    }
+
+    // Writes the file; its length, and what each record was refused with.
+    fn write(&mut self, plan: &Plan<'_>) -> (usize, [Option<Refusal>; 8]) {
+        let mut refusals = [None; 8];
+        let begun = Unheaded::begin();
+        let (mut file, refusal) = self.start(begun, plan.head);
+        refusals[0] = refusal;
+        for (i, entry) in plan.entries.iter().enumerate() {
+            let (next, refusal) = self.add(file, *entry);
+            file = next;
+            refusals[i + 1] = refusal;
+        }
+        let (length, refusal) = self.finish(file);
+        refusals[7] = refusal;
+        (length, refusals)
     }
 }
 
-// Writes a term in the same way; one that is no term is left out.
-fn add_term(
-    file: Headed,
-    buffer: &mut [u8],
-    spare: &mut [u8; 1024],
-    given: Term<'_>,
-    note: &mut u8,
-) -> Headed
-    ensures reach { result.at ≤ file.at + 70 }
+// Writes the end into the buffer.
+fn ended(file: Headed, buffer: &mut [u8]) -> Result<usize, Declined<Headed>>
+    ensures cramped { IfErr result (λ d. (d.back ≡ file) × (min (length buffer.old) 4294967295 < file.at + 8)) }
 {
-    match file.term(buffer, given) {
-        Ok(file) => file,
-        Err(declined) => {
-            let Declined { refusal, back } = declined;
-            *note = u8::from(refusal);
-            match back.term(spare, given) {
-                Ok(file) => file,
-                Err(declined) => {
-                    let Declined { refusal: _, back } = declined;
-                    back
-                }
-            }
-        }
+    file.end(buffer)
+}
+
+// Writes an entry into the buffer.
+fn entered(file: Headed, buffer: &mut [u8], entry: Entry<'_>) -> Result<Headed, Declined<Headed>>
+    ensures grows { Grows file result }
+{
+    match entry {
+        Entry::Term(term) => file.term(buffer, term),
+        Entry::Locator(locator) => file.locator(buffer, locator),
     }
 }
 
-// Writes a locator in the same way.
-fn add_locator(
-    file: Headed,
-    buffer: &mut [u8],
-    spare: &mut [u8; 1024],
-    given: Locator,
-    note: &mut u8,
-) -> Headed
-    ensures reach { result.at ≤ file.at + 11 }
-{
-    match file.locator(buffer, given) {
-        Ok(file) => file,
-        Err(declined) => {
-            let Declined { refusal, back } = declined;
-            *note = u8::from(refusal);
-            match back.locator(spare, given) {
-                Ok(file) => file,
-                Err(declined) => {
-                    let Declined { refusal: _, back } = declined;
-                    back
-                }
-            }
-        }
-    }
-}
-
-// Writes the end in the same way; the file's length.
-fn finish(file: Headed, buffer: &mut [u8], spare: &mut [u8; 1024], note: &mut u8) -> usize
-    requires { file.at ≤ 1016 }
-{
-    match file.end(buffer) {
-        Ok(length) => length,
-        Err(declined) => {
-            let Declined { refusal, back } = declined;
-            *note = u8::from(refusal);
-            match back.end(spare) {
-                Ok(length) => length,
-                Err(_) => unreachable(),
-            }
-        }
-    }
-}
-
-// What each record of a file was refused with, 0 where it was written at once.
-type Notes = [u8; 8];
-
-// The file of two terms with one and three locators.
-fn sample(buffer: &mut [u8], spare: &mut [u8; 1024], notes: &mut Notes) -> usize {
-    let head = Head {
-        n: 22,
-        owed: 0,
-        terms: 2,
-    };
-    let first = Term {
-        number: 3,
-        limit: 0,
-        bytes: b"cat",
-    };
-    let second = Term {
-        number: 5,
-        limit: 1,
-        bytes: b"cat",
-    };
-    let begun = Unheaded::begin();
-    let file = start(begun, buffer, spare, head, &mut notes[0]);
-    let file = add_term(file, buffer, spare, first, &mut notes[1]);
-    let file = add_locator(file, buffer, spare, locator(4, 1, 4, 0), &mut notes[2]);
-    let file = add_term(file, buffer, spare, second, &mut notes[3]);
-    let file = add_locator(file, buffer, spare, locator(4, 1, 4, 0), &mut notes[4]);
-    let file = add_locator(file, buffer, spare, locator(8, 1, 8, 1), &mut notes[5]);
-    let file = add_locator(file, buffer, spare, locator(19, 2, 7, 1), &mut notes[6]);
-    finish(file, buffer, spare, &mut notes[7])
+// A term of these fields.
+fn term(number: u8, limit: u8, bytes: &[u8]) -> Entry<'_> {
+    Entry::Term(Term {
+        number,
+        limit,
+        bytes,
+    })
 }
 
 // A locator of these fields.
-fn locator(start: u16, page: u16, place: u16, variant: u8) -> Locator {
-    Locator {
+fn locator<'a>(start: u16, page: u16, place: u16, variant: u8) -> Entry<'a> {
+    Entry::Locator(Locator {
         start,
         page,
         place,
         variant,
+    })
+}
+
+// The file of two terms with one and three locators.
+fn sample<'a>() -> Plan<'a> {
+    Plan {
+        name: "sample",
+        head: Head {
+            n: 22,
+            owed: 0,
+            terms: 2,
+        },
+        entries: [
+            term(3, 0, b"cat"),
+            locator(4, 1, 4, 0),
+            term(5, 1, b"cat"),
+            locator(4, 1, 4, 0),
+            locator(8, 1, 8, 1),
+            locator(19, 2, 7, 1),
+        ],
     }
 }
 
 // The largest numbers in every field, all byte values in terms, a term too short and one too long; locators before terms.
-fn extremes(buffer: &mut [u8], spare: &mut [u8; 1024], notes: &mut Notes) -> usize {
-    let mut values = [0u8; 128];
-    for (i, value) in values.iter_mut().enumerate() {
-        *value = (2 * i + 1) as u8;
-    }
-    let head = Head {
-        n: 4294967295,
-        owed: 65535,
-        terms: 65535,
-    };
-    let low = Term {
-        number: 255,
-        limit: 255,
-        bytes: &values[0..64],
-    };
-    let high = Term {
-        number: 0,
-        limit: 0,
-        bytes: &values[64..128],
-    };
-    let none = Term {
-        number: 1,
-        limit: 0,
-        bytes: b"",
-    };
-    let long = Term {
-        number: 2,
-        limit: 0,
-        bytes: &values[0..65],
-    };
+fn extremes(values: &[u8; 128]) -> Plan<'_> {
     let most = locator(65535, 65535, 65535, 255);
-    let file = start(Unheaded::begin(), buffer, spare, head, &mut notes[0]);
-    let file = add_locator(file, buffer, spare, most, &mut notes[1]);
-    let file = add_term(file, buffer, spare, low, &mut notes[2]);
-    let file = add_term(file, buffer, spare, none, &mut notes[3]);
-    let file = add_term(file, buffer, spare, long, &mut notes[4]);
-    let file = add_term(file, buffer, spare, high, &mut notes[5]);
-    let file = add_locator(file, buffer, spare, most, &mut notes[6]);
-    finish(file, buffer, spare, &mut notes[7])
+    Plan {
+        name: "extremes",
+        head: Head {
+            n: 4294967295,
+            owed: 65535,
+            terms: 65535,
+        },
+        entries: [
+            most,
+            term(255, 255, &values[0..64]),
+            term(1, 0, b""),
+            term(2, 0, &values[0..65]),
+            term(0, 0, &values[64..128]),
+            most,
+        ],
+    }
 }
 
-// The running sum of the bytes.
-fn sum_of(bytes: &[u8]) -> u32 {
-    let mut sum = 0u32;
-    for b in bytes {
-        sum = sum.wrapping_mul(31).wrapping_add(*b as u32);
+// Writes the file into the first `room` bytes of the buffer, and prints its length, what each record was refused with, 0 for nothing, and the sums of both buffers.
+fn show(rt: &HostRuntime, plan: &Plan<'_>, buffer: &mut [u8], room: usize) -> anyhow::Result<()> {
+    let room = room.min(buffer.len());
+    let mut buffers = Buffers {
+        buffer: &mut buffer[0..room],
+        spare: [85; 1024],
+    };
+    let (length, refusals) = buffers.write(plan);
+    let spare_sum = sum_of(0, &buffers.spare);
+    let sum = sum_of(0, buffer);
+    print!(rt; "{}: {length} bytes, refused", plan.name)?;
+    for refusal in refusals {
+        print!(rt; " {}", refusal.map_or(0, u8::from))?;
     }
-    sum
-}
-
-// Prints what was refused, the file's length and the sums of both buffers.
-fn tell(
-    rt: &HostRuntime,
-    name: &str,
-    length: usize,
-    notes: &Notes,
-    sums: (u32, u32),
-) -> anyhow::Result<()> {
-    print!(rt; "{name}: {length} bytes, refused")?;
-    for note in notes {
-        print!(rt; " {note}")?;
-    }
-    let (buffer, spare) = sums;
-    println!(rt; ", sums {buffer} {spare}")?;
+    println!(rt; ", sums {sum} {spare_sum}")?;
     Ok(())
 }
 
-// The sample in the first `room` bytes of the buffer.
-fn sample_in(rt: &HostRuntime, buffer: &mut [u8], room: usize) -> anyhow::Result<()> {
-    let mut spare = [85u8; 1024];
-    let mut notes = [0u8; 8];
-    let l = room.min(buffer.len());
-    let length = sample(&mut buffer[0..l], &mut spare, &mut notes);
-    tell(
-        rt,
-        "sample",
-        length,
-        &notes,
-        (sum_of(buffer), sum_of(&spare)),
-    )
-}
-
-// The largest numbers in the first `room` bytes of the buffer.
-fn extremes_in(rt: &HostRuntime, buffer: &mut [u8], room: usize) -> anyhow::Result<()> {
-    let mut spare = [85u8; 1024];
-    let mut notes = [0u8; 8];
-    let l = room.min(buffer.len());
-    let length = extremes(&mut buffer[0..l], &mut spare, &mut notes);
-    tell(
-        rt,
-        "extremes",
-        length,
-        &notes,
-        (sum_of(buffer), sum_of(&spare)),
-    )
-}
-
-// The bytes of the sample.
+// Prints the bytes of the sample.
 fn print_sample(rt: &HostRuntime) -> anyhow::Result<()> {
     let mut buffer = [0u8; 82];
-    let mut spare = [0u8; 1024];
-    let mut notes = [0u8; 8];
-    let length = sample(&mut buffer, &mut spare, &mut notes);
+    let mut buffers = Buffers {
+        buffer: &mut buffer,
+        spare: [0; 1024],
+    };
+    let (length, _) = buffers.write(&sample());
     print!(rt; "{length}:")?;
     for b in buffer {
         print!(rt; " {b}")?;
@@ -256,10 +213,11 @@ fn print_sample(rt: &HostRuntime) -> anyhow::Result<()> {
 fn main(rt: HostRuntime) -> anyhow::Result<()> {
     print_sample(&rt)?;
     for room in 0..86 {
-        sample_in(&rt, &mut [170u8; 128], room)?;
+        show(&rt, &sample(), &mut [170; 128], room)?;
     }
+    let values = std::array::from_fn(|i| (2 * i + 1) as u8);
     for room in [0, 11, 12, 22, 23, 92, 93, 162, 163, 173, 174, 181, 182, 256] {
-        extremes_in(&rt, &mut [170u8; 256], room)?;
+        show(&rt, &extremes(&values), &mut [170; 256], room)?;
     }
     Ok(())
 }

@@ -1,5 +1,5 @@
 -- A file written record by record. Assumes nothing.
-use Rattle.std.specs.Prelude.{◌≡◌, ℕ, ◌+◌, min, Bool, cond, ◌&&◌, List, [], ◌∷◌, ◌++◌, length, Some, None, Ok, Err, Option, Result, nat_le}
+use Rattle.std.specs.Prelude.{◌≡◌, ℕ, ◌+◌, ◌<◌, ◌≤◌, min, Bool, cond, ◌&&◌, List, [], ◌∷◌, ◌++◌, length, Some, None, Ok, Err, Option, Result, MatchResult, nat_le}
 use Rattle.std.proofs.Math.Seq.{paste}
 use Rattle.rules.specs.declared.refusal.Refusal.{Refusal}
 use Rattle.rules.specs.declared.refusal.Refusal.TheVariants.{TermLength, BufferTooSmall}
@@ -13,6 +13,12 @@ use Rattle.index_file.specs.Records.Record.{head, term, locator, end}
 -- l bytes from `at` on fit into a buffer of `room` bytes, of which a file uses at most 4,294,967,295
 abbrev pub fits : ℕ → ℕ → ℕ → Bool
 fits at l room = nat_le (at + l) (min room 4294967295)
+
+-- bytes placed from `at` on where they fit, the state with how far they reach; where they do not, all stays as it was
+abbrev pub Placed : {S : Type 0} → S → ℕ → List ℕ → List ℕ → Result (S × ℕ) (Declined S) → List ℕ → Type 0
+Placed state at bytes old answer new =
+    MatchResult answer (λ t. (at + length bytes ≤ min (length old) 4294967295) × (t.0 ≡ state) × (t.1 ≡ at + length bytes) × (new ≡ paste old at bytes (length bytes)))
+    (λ d. (min (length old) 4294967295 < at + length bytes) × (d.refusal ≡ BufferTooSmall) × (d.back ≡ state) × (new ≡ old))
 
 -- why a record is not written: a term that is empty or over 64 bytes, then one that does not fit the rest of the buffer
 abbrev pub well_formed : Record → Option Refusal

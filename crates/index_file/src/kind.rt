@@ -3,7 +3,7 @@ ghost use Rattle.std.specs.Prelude.{◌≡◌};
 ghost use Rattle.index_file.specs.Kinds.{kind_number};
 
 // Each kind has the number that stands in its records.
-#[derive(Clone, Copy)]
+#[derive(Clone, Copy, PartialEq, Eq, Debug)]
 pub enum Kind {
     Head = 1,
     Term = 2,
@@ -11,11 +11,11 @@ pub enum Kind {
     End = 4,
 }
 
-impl Kind {
+impl From<Kind> for u8 {
+    ghost from_gives = { λ kind number. number ≡ kind_number kind };
+
     // The number that stands in the kind's records.
-    pub fn number(self) -> u8
-        ensures value { result ≡ kind_number self }
-    {
-        self as u8
+    fn from(kind: Kind) -> u8 {
+        kind as u8
     }
 }

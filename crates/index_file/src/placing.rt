@@ -1,23 +1,29 @@
 // Bytes written into a lent buffer.
-ghost use Rattle.std.specs.Prelude.{◌≡◌, ◌+◌, ◌≤◌, length};
-ghost use Rattle.std.proofs.Math.Seq.{paste};
-ghost use Rattle.index_file.specs.Files.{fits};
+ghost use Rattle.index_file.specs.Files.{Placed};
+
+use rules::declined::Declined;
+use rules::refusal::Refusal;
 
 // The most bytes that a file can have, so that its end can count its locators.
 const MOST: usize = 4294967295;
 
-// Whether `l` bytes from `at` on fit into a buffer of `room` bytes.
-pub(super) fn has_room(at: usize, l: usize, room: usize) -> bool
-    ensures value { result ≡ fits at l room }
+// Writes the bytes from `at` on where they fit; the state, and how far the file then reaches.
+pub(super) fn place<S>(
+    state: S,
+    at: usize,
+    buffer: &mut [u8],
+    bytes: &[u8],
+) -> Result<(S, usize), Declined<S>>
+    ensures placed { Placed state at bytes.now buffer.old result buffer.new }
 {
-    let end = room.min(MOST);
-    l <= end && at <= end - l
-}
-
-// Writes the bytes from `at` on.
-pub(super) fn place(buffer: &mut [u8], at: usize, bytes: &[u8])
-    requires { at + length bytes.now ≤ length buffer.old }
-    ensures after { buffer.new ≡ paste buffer.old at bytes.now (length bytes.now) }
-{
-    buffer[at..at + bytes.len()].copy_from_slice(bytes);
+    let room = buffer.len().min(MOST);
+    if bytes.len() > room || at > room - bytes.len() {
+        return Err(Declined {
+            refusal: Refusal::BufferTooSmall,
+            back: state,
+        });
+    }
+    let end = at + bytes.len();
+    buffer[at..end].copy_from_slice(bytes);
+    Ok((state, end))
 }

@@ -2,10 +2,9 @@
 ghost use Rattle.std.specs.Prelude.{◌≡◌, ◌+◌, length};
 ghost use Rattle.index_file.specs.Files.{Reaches, Written};
 ghost use Rattle.index_file.specs.Records.Record.{head, term, locator, end};
-ghost use Rattle.index_file.specs.Records.{encoded};
 
-use super::encoding::{end_bytes, head_bytes, locator_bytes, term_front};
-use super::placing::{has_room, place};
+use super::encoding::{end_bytes, head_bytes, locator_bytes, term_bytes};
+use super::placing::place;
 use super::record::{Head, Term};
 use super::state::{Headed, Unheaded};
 use rules::declined::Declined;
@@ -24,18 +23,9 @@ impl Unheaded {
     pub fn head(self, buffer: &mut [u8], given: Head) -> Result<Headed, Declined<Unheaded>>
         ensures written { Written self 0 (head given.n given.owed given.terms) (Reaches 12 0) buffer.old result buffer.new }
     {
-        if !has_room(self.at, 12, buffer.len()) {
-            return Err(Declined {
-                refusal: Refusal::BufferTooSmall,
-                back: self,
-            });
-        }
-        let Unheaded { at } = self;
-        place(buffer, at, &head_bytes(given));
-        Ok(Headed {
-            at: at + 12,
-            locators: 0,
-        })
+        let at = self.at;
+        let (Unheaded { at: _ }, at) = place(self, at, buffer, &head_bytes(given))?;
+        Ok(Headed { at, locators: 0 })
     }
 }
 
@@ -45,47 +35,26 @@ impl Headed {
         ensures written { Written self self.at (term given.entry.number given.entry.limit given.entry.bytes.now) (Reaches (self.at + (6 + length given.entry.bytes.now)) self.locators) buffer.old result buffer.new }
     {
         let m = given.bytes.len();
-        if m == 0 {
+        if !(1..=64).contains(&m) {
             return Err(Declined {
                 refusal: Refusal::TermLength,
                 back: self,
             });
         }
-        if m > 64 {
-            return Err(Declined {
-                refusal: Refusal::TermLength,
-                back: self,
-            });
-        }
-        if !has_room(self.at, 6 + m, buffer.len()) {
-            return Err(Declined {
-                refusal: Refusal::BufferTooSmall,
-                back: self,
-            });
-        }
-        let Headed { at, locators } = self;
-        place(buffer, at, &term_front(given));
-        place(buffer, at + 6, given.bytes);
-        Ok(Headed {
-            at: at + (6 + m),
-            locators,
-        })
+        let at = self.at;
+        let bytes = term_bytes(given);
+        let (Headed { at: _, locators }, at) = place(self, at, buffer, &bytes[0..6 + m])?;
+        Ok(Headed { at, locators })
     }
 
     // Writes a locator, which the file's end will count.
     pub fn locator(self, buffer: &mut [u8], given: Locator) -> Result<Headed, Declined<Headed>>
         ensures written { Written self self.at (locator given.start given.page given.place given.variant) (Reaches (self.at + 11) (self.locators + 1)) buffer.old result buffer.new }
     {
-        if !has_room(self.at, 11, buffer.len()) {
-            return Err(Declined {
-                refusal: Refusal::BufferTooSmall,
-                back: self,
-            });
-        }
-        let Headed { at, locators } = self;
-        place(buffer, at, &locator_bytes(given));
+        let at = self.at;
+        let (Headed { at: _, locators }, at) = place(self, at, buffer, &locator_bytes(given))?;
         Ok(Headed {
-            at: at + 11,
+            at,
             locators: locators + 1,
         })
     }
@@ -94,14 +63,9 @@ impl Headed {
     pub fn end(self, buffer: &mut [u8]) -> Result<usize, Declined<Headed>>
         ensures written { Written self self.at (end self.locators) (λ l. l ≡ self.at + 8) buffer.old result buffer.new }
     {
-        if !has_room(self.at, 8, buffer.len()) {
-            return Err(Declined {
-                refusal: Refusal::BufferTooSmall,
-                back: self,
-            });
-        }
-        let Headed { at, locators } = self;
-        place(buffer, at, &end_bytes(locators));
-        Ok(at + 8)
+        let at = self.at;
+        let bytes = end_bytes(self.locators);
+        let (Headed { at: _, locators: _ }, length) = place(self, at, buffer, &bytes)?;
+        Ok(length)
     }
 }

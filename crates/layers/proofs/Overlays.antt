@@ -1,8 +1,11 @@
 -- Pasted bytes over a text, by the meaning of what is below alone. Assumes nothing.
-use Rattle.std.specs.Prelude.{◌≡◌, ℕ, suc, ◌+◌, ◌-◌, ◌<◌, ◌≤◌, max, true, false, cond, List, [], ◌∷◌, ◌++◌, length, get_or, take, drop, set, ◌==◌, ◌≢◌, slice_index_or, slice_set, refl}
+use Rattle.std.specs.Prelude.{◌≡◌, ℕ, ◌+◌, ◌-◌, ◌<◌, ◌≤◌, Bool, true, false, cond, List, [], ◌∷◌, ◌++◌, length, take, drop, set, ◌==◌, slice_set, refl, not, position, Some, None, Option, is_some}
+use Rattle.std.specs.List.{prefix_len}
 use Rattle.std.proofs.Common.{sym, ap, ◌∙◌, ⊎_elim, arith, length-take, length-drop}
-use Rattle.std.proofs.lemmas.List.{get_or-take, set-set, set_comm, drop_more, drop_all, drop-set-lt, drop-set-add, take-set-le, take_more_set}
-use Rattle.std.proofs.lemmas.Bool.{cases_Bool, cases_eq, cases_lt, eq-eqb, ne_eqb, cond-true, cond-false}
+use Rattle.std.proofs.lemmas.List.{append_assoc, set-set, set_comm, drop-set-lt, drop-set-add, take-set-le}
+use Rattle.std.proofs.lemmas.List.Folds.{length-prefix_len}
+use Rattle.std.proofs.lemmas.Bool.Decides.{nat_tests}
+use Rattle.std.proofs.lemmas.Bool.{cases_Bool}
 use Rattle.galleys.proofs.Parts.{take-set-in}
 use Rattle.layers.specs.declared.paste.Paste.{Paste}
 use Rattle.layers.specs.PastedTexts.{length_over}
@@ -15,119 +18,60 @@ module _ (shows : ℕ → ℕ) (text : List ℕ) where
   -- one more pasted
   pub over-pasted : (ps : List Paste) (at b : ℕ) → over shows text (paste_in ps at b) ≡ slice_set (over shows text ps) at (shows b)
   over-pasted [] at b = refl
-  over-pasted (p ∷ ps) at b = ⊎_elim
-      (λ (e : p.at ≡ at).
-      ap (over shows text) (cond-true (p.at == at) (one at b ∷ ps) (p ∷ paste_in ps at b) (eq-eqb p.at at e))
-      ∙ sym (set-set (over shows text ps) at (shows p.byte) (shows b)) ∙ ap (λ k. set (slice_set (over shows text ps) k (shows p.byte)) at (shows b)) (sym e))
-      (λ (d : p.at ≡ at → ⊥).
-      ap (over shows text) (cond-false (p.at == at) (one at b ∷ ps) (p ∷ paste_in ps at b) (ne_eqb p.at at d))
-      ∙ ap (λ xs. set xs p.at (shows p.byte)) (over-pasted ps at b)
-      ∙ set_comm (over shows text ps) at p.at (shows b) (shows p.byte) (λ e. d (sym e)))
-      (cases_eq p.at at)
+  over-pasted (p ∷ ps) at b =
+      let more = over-pasted ps at b in
+      grind (arith, nat_tests, set-set, set_comm)
 
-  -- the pasted bytes from the last to the first
-  pub over-more : (ps : List Paste) (i : ℕ) (d : Paste) → i < length ps → slice_set (over shows text (drop (i + 1) ps)) (get_or ps i d).at (shows (get_or ps i d).byte) ≡ over shows text (drop i ps)
-  over-more ps i d l = sym (ap (over shows text) (drop_more ps i d l))
-
-  pub over_none : (ps : List Paste) (i : ℕ) → length ps ≤ i → text ≡ over shows text (drop i ps)
-  over_none ps i l = sym (ap (over shows text) (drop_all i ps l))
-
-  -- the same, in the array of which the first `held` are held
-  pub put-more : (all : List Paste) (held i : ℕ) (d : Paste) (now : List ℕ) → 0 < i → i ≤ held → held ≤ length all → now ≡ over shows text (drop i (take held all)) →
-      slice_set now (get_or all (i - 1) d).at (shows (get_or all (i - 1) d).byte) ≡ over shows text (drop (i - 1) (take held all))
-  put-more all held i d now some le few is =
-      let n = length-take held all in
-      let next : i - 1 + 1 ≡ i = omega arith in
-      let same : get_or (take held all) (i - 1) d ≡ get_or all (i - 1) d = get_or-take held all (i - 1) d (omega arith) in
-      ap (λ xs. set xs (get_or all (i - 1) d).at (shows (get_or all (i - 1) d).byte)) (is ∙ ap (λ k. over shows text (drop k (take held all))) (sym next))
-      ∙ ap (λ p. set (over shows text (drop (i - 1 + 1) (take held all))) p.at (shows p.byte)) (sym same)
-      ∙ over-more (take held all) (i - 1) d (omega arith)
+-- one pasted byte more, from the last to the first
+pub one-more : (ps rest next done : List Paste) (p : Paste) → ps ≡ rest ++ done → rest ≡ next ++ p ∷ [] → ps ≡ next ++ (p ∷ done)
+one-more ps rest next done p e f = e ∙ ap (λ xs. xs ++ done) f ∙ append_assoc next (p ∷ []) done
 
 -- looking for a place
-pub first-none : (ps : List Paste) (at : ℕ) → first_at ps at ≡ 0 + first_at (drop 0 ps) at
-first-none ps at = omega arith
-
-module _ (ps : List Paste) (at i : ℕ) (d : Paste) (so_far : first_at ps at ≡ i + first_at (drop i ps) at) (l : i < length ps) where
-  next : first_at (drop i ps) at ≡ cond ((get_or ps i d).at == at) 0 (suc (first_at (drop (i + 1) ps) at))
-  next = ap (λ xs. first_at xs at) (drop_more ps i d l)
-
-  pub first-here : (get_or ps i d).at ≡ at → i ≡ first_at ps at
-  first-here e =
-      let z = next ∙ cond-true ((get_or ps i d).at == at) 0 (suc (first_at (drop (i + 1) ps) at)) (eq-eqb (get_or ps i d).at at e) in
-      omega arith
-
-  pub first_more : ((get_or ps i d).at ≢ at) → first_at ps at ≡ i + 1 + first_at (drop (i + 1) ps) at
-  first_more n =
-      let z = next ∙ cond-false ((get_or ps i d).at == at) 0 (suc (first_at (drop (i + 1) ps) at)) (ne_eqb (get_or ps i d).at at n) in
-      omega arith
-
-pub first-all : (ps : List Paste) (at i : ℕ) → first_at ps at ≡ i + first_at (drop i ps) at → length ps ≤ i → i ≡ first_at ps at
-first-all ps at i so_far l =
-    let z = ap (λ xs. first_at xs at) (drop_all i ps l) in
-    omega arith
-
--- in the array of which the first `held` are held
-module _ (all : List Paste) (held at i : ℕ) (d : Paste) (few : held ≤ length all) (so_far : first_at (take held all) at ≡ i + first_at (drop i (take held all)) at) (l : i < held) where
-  stored : get_or all i d ≡ slice_index_or (take held all) i d
-  stored = sym (get_or-take held all i d l)
-
-  inside : i < length (take held all)
-  inside = omega (arith, length-take held all)
-
-  pub stored_here : (get_or all i d).at ≡ at → i ≡ first_at (take held all) at
-  stored_here e = first-here (take held all) at i d so_far inside (ap (λ (p : Paste). p.at) (sym stored) ∙ e)
-
-  pub stored_more : ((get_or all i d).at ≢ at) → first_at (take held all) at ≡ i + 1 + first_at (drop (i + 1) (take held all)) at
-  stored_more n = first_more (take held all) at i d so_far inside (λ e. n (ap (λ (p : Paste). p.at) stored ∙ e))
-
 pub first-le : (ps : List Paste) (at : ℕ) → first_at ps at ≤ length ps
-first-le [] at = omega arith
-first-le (p ∷ ps) at =
-    let r = first-le ps at in
-    ⊎_elim
-    (λ (e : p.at ≡ at). let z = cond-true (p.at == at) 0 (suc (first_at ps at)) (eq-eqb p.at at e) in omega arith)
-    (λ (d : p.at ≡ at → ⊥). let z = cond-false (p.at == at) 0 (suc (first_at ps at)) (ne_eqb p.at at d) in omega arith)
-    (cases_eq p.at at)
+first-le ps at =
+    let q : Paste → Bool = λ p. not (p.at == at) in
+    omega (arith, length-prefix_len q ps, length-take (prefix_len q ps) ps)
+
+-- where the place was found, and where it was not
+pub found : (ps : List Paste) (at i : ℕ) → Some i ≡ position (λ p. p.at == at) ps → (i ≡ first_at ps at) × (i < length ps)
+found ps at i e = grind (arith, nat_tests)
+
+pub found-none : (ps : List Paste) (at : ℕ) → None ≡ position (λ p. p.at == at) ps → first_at ps at ≡ length ps
+found-none ps at e =
+    let le = first-le ps at in
+    grind (arith, nat_tests)
+
+-- whether they are full
+pub full-none : (ps : List Paste) (at : ℕ) (o : Option ℕ) (b : Bool) → length ps ≡ 32 → o ≡ position (λ p. p.at == at) ps → is_some o ≡ not b → b ≡ is_full ps at
+full-none ps at None b l e n =
+    let f = found-none ps at e in
+    grind (arith, nat_tests)
+full-none ps at (Some i) b l e n =
+    let f = found ps at i e in
+    grind (arith, nat_tests)
+
+pub full-room : (ps : List Paste) (at : ℕ) → length ps ≤ 32 → (length ps ≡ 32 → ⊥) → false ≡ is_full ps at
+full-room ps at l d =
+    let le = first-le ps at in
+    grind (arith, nat_tests)
+
+pub roomy : (ps : List Paste) (at : ℕ) → length ps ≤ 32 → is_full ps at ≡ false → None ≡ position (λ p. p.at == at) ps → length ps < 32
+roomy ps at l room e =
+    let f = found-none ps at e in
+    grind (arith, nat_tests)
 
 -- what pasting does to the list
 pub paste-found : (ps : List Paste) (at b : ℕ) → first_at ps at < length ps → paste_in ps at b ≡ slice_set ps (first_at ps at) (one at b)
 paste-found [] at b l = absurd (omega arith)
-paste-found (p ∷ ps) at b l = ⊎_elim
-    (λ (e : p.at ≡ at).
-    let y = eq-eqb p.at at e in
-    cond-true (p.at == at) (one at b ∷ ps) (p ∷ paste_in ps at b) y ∙ sym (ap (λ k. set (p ∷ ps) k (one at b)) (cond-true (p.at == at) 0 (suc (first_at ps at)) y)))
-    (λ (d : p.at ≡ at → ⊥).
-    let n = ne_eqb p.at at d in
-    let z = cond-false (p.at == at) 0 (suc (first_at ps at)) n in
-    cond-false (p.at == at) (one at b ∷ ps) (p ∷ paste_in ps at b) n ∙ ap (λ xs. p ∷ xs) (paste-found ps at b (omega arith)) ∙ sym (ap (λ k. set (p ∷ ps) k (one at b)) z))
-    (cases_eq p.at at)
+paste-found (p ∷ ps) at b l =
+    let more = paste-found ps at b in
+    grind (arith, nat_tests)
 
 pub paste-added : (ps : List Paste) (at b : ℕ) → first_at ps at ≡ length ps → paste_in ps at b ≡ ps ++ one at b ∷ []
 paste-added [] at b l = refl
-paste-added (p ∷ ps) at b l = ⊎_elim
-    (λ (e : p.at ≡ at). let z = cond-true (p.at == at) 0 (suc (first_at ps at)) (eq-eqb p.at at e) in absurd (omega arith))
-    (λ (d : p.at ≡ at → ⊥).
-    let n = ne_eqb p.at at d in
-    let z = cond-false (p.at == at) 0 (suc (first_at ps at)) n in
-    cond-false (p.at == at) (one at b ∷ ps) (p ∷ paste_in ps at b) n ∙ ap (λ xs. p ∷ xs) (paste-added ps at b (omega arith)))
-    (cases_eq p.at at)
-
--- in the array of which the first `held` are held
-pub paste-stored : (all : List Paste) (held at b i : ℕ) → held ≤ length all → i ≡ first_at (take held all) at → i < length all → take (max held (i + 1)) (slice_set all i (one at b)) ≡ paste_in (take held all) at b
-paste-stored all held at b i few is room =
-    let n = length-take held all in
-    let le = first-le (take held all) at in
-    ⊎_elim
-    (λ (l : i < held).
-    let m : max held (i + 1) ≡ held = omega arith in
-    ap (λ k. take k (slice_set all i (one at b))) m ∙ take-set-in held all i (one at b) l room
-    ∙ ap (λ k. set (take held all) k (one at b)) is ∙ sym (paste-found (take held all) at b (omega arith)))
-    (λ (l : held ≤ i).
-    let m : max held (i + 1) ≡ i + 1 = omega arith in
-    let h : i ≡ held = omega arith in
-    ap (λ k. take k (slice_set all i (one at b))) m ∙ take_more_set all i (one at b) room
-    ∙ ap (λ k. take k all ++ one at b ∷ []) h ∙ sym (paste-added (take held all) at b (omega arith)))
-    (cases_lt i held)
+paste-added (p ∷ ps) at b l =
+    let more = paste-added ps at b in
+    grind (arith, nat_tests)
 
 -- a part of a text in which one byte was set
 pub part-set-in : (text : List ℕ) (at l q x : ℕ) → at + l ≤ length text → at ≤ q → q - at < l → take l (drop at (slice_set text q x)) ≡ slice_set (take l (drop at text)) (q - at) x
@@ -145,28 +89,17 @@ part-set-behind text at l q x lq r =
     ap (λ k. take l (drop at (slice_set text k x))) e ∙ ap (take l) (drop-set-add at text (q - at) x) ∙ take-set-le l (drop at text) (q - at) x r
 
 -- one pasted byte more, laid over a part of the text: it lies within the part, or it does not
-module _ (shows : ℕ → ℕ) (text : List ℕ) (all : List Paste) (held i : ℕ) (d : Paste) (some : 0 < i) (le : i ≤ held) (few : held ≤ length all)
-    (at l : ℕ) (within : at + l ≤ length text) (part : List ℕ) (is : part ≡ take l (drop at (over shows text (drop i (take held all)))))
-  where
-    abbrev pub place : ℕ
-    place = (get_or all (i - 1) d).at
+module _ (shows : ℕ → ℕ) (text : List ℕ) (p : Paste) (done : List Paste) (at l : ℕ) (within : at + l ≤ length text) (part : List ℕ) (is : part ≡ take l (drop at (over shows text done))) where
+  pub laid_in : (x : ℕ) → at ≤ p.at → p.at - at < l → x ≡ shows p.byte → slice_set part (p.at - at) x ≡ take l (drop at (over shows text (p ∷ done)))
+  laid_in x u v e =
+      ap (set part (p.at - at)) e ∙ ap (λ xs. set xs (p.at - at) (shows p.byte)) is
+      ∙ sym (part-set-in (over shows text done) at l p.at (shows p.byte) (omega (arith, length_over shows text done)) u v)
 
-    abbrev before : List ℕ
-    before = over shows text (drop i (take held all))
+  pub laid-before : p.at < at → part ≡ take l (drop at (over shows text (p ∷ done)))
+  laid-before u = is ∙ sym (part-set-before (over shows text done) at l p.at (shows p.byte) u)
 
-    step : take l (drop at (slice_set before place (shows (get_or all (i - 1) d).byte))) ≡ take l (drop at (over shows text (drop (i - 1) (take held all))))
-    step = ap (λ xs. take l (drop at xs)) (put-more shows text all held i d before some le few refl)
-
-    pub laid_in : (x : ℕ) → at ≤ place → place - at < l → x ≡ shows (get_or all (i - 1) d).byte → slice_set part (place - at) x ≡ take l (drop at (over shows text (drop (i - 1) (take held all))))
-    laid_in x u v e =
-        ap (set part (place - at)) e ∙ ap (λ xs. set xs (place - at) (shows (get_or all (i - 1) d).byte)) is
-        ∙ sym (part-set-in before at l place (shows (get_or all (i - 1) d).byte) (omega (arith, length_over shows text (drop i (take held all)))) u v) ∙ step
-
-    pub laid-before : place < at → part ≡ take l (drop at (over shows text (drop (i - 1) (take held all))))
-    laid-before u = is ∙ sym (part-set-before before at l place (shows (get_or all (i - 1) d).byte) u) ∙ step
-
-    pub laid-behind : at ≤ place → l ≤ place - at → part ≡ take l (drop at (over shows text (drop (i - 1) (take held all))))
-    laid-behind u v = is ∙ sym (part-set-behind before at l place (shows (get_or all (i - 1) d).byte) u v) ∙ step
+  pub laid-behind : at ≤ p.at → l ≤ p.at - at → part ≡ take l (drop at (over shows text (p ∷ done)))
+  laid-behind u v = is ∙ sym (part-set-behind (over shows text done) at l p.at (shows p.byte) u v)
 
 -- the text after a put
 pub pasting-text : {G : Type 0} (text : G → List ℕ) (shows : ℕ → ℕ) (old : G) (ps : List Paste) (at b : ℕ) (new : G) (qs : List Paste) → Pasting text shows old ps at b new qs → over shows (text new) qs ≡ slice_set (over shows (text old) ps) at (shows b)

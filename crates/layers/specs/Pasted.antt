@@ -1,16 +1,17 @@
 -- Pasted bytes, each with its place. Assumes nothing.
-use Rattle.std.specs.Prelude.{◌≡◌, ℕ, suc, ◌+◌, ◌≤◌, Bool, true, false, cond, List, [], ◌∷◌, length, take, drop, ◌==◌, slice_set}
+use Rattle.std.specs.Prelude.{◌≡◌, ℕ, ◌+◌, ◌≤◌, Bool, true, false, cond, List, [], ◌∷◌, length, take, drop, ◌==◌, slice_set}
+use Rattle.std.specs.List.{position_or_len}
 use Rattle.layers.specs.declared.paste.Paste.{Paste}
+use Rattle.layers.specs.declared.paste_up.PasteUp.{PasteUp}
 use Rattle.layers.specs.declared.pastes.Pastes.{Pastes}
 
 -- the pasted bytes that are held
 abbrev pub paste_list : Pastes → List Paste
-paste_list p = take p.held p.all
+paste_list p = p.list.items
 
 -- how many stand before the one at the place; all of them where none has it
 abbrev pub first_at : List Paste → ℕ → ℕ
-first_at [] at = 0
-first_at (p ∷ ps) at = cond (p.at == at) 0 (suc (first_at ps at))
+first_at ps at = position_or_len (λ p. p.at == at) ps
 
 -- 32 are held, none of them at the place
 abbrev pub is_full : List Paste → ℕ → Bool
@@ -25,6 +26,10 @@ paste_in (p ∷ ps) at b = cond (p.at == at) (record { at = at; byte = b } ∷ p
 abbrev pub over : (ℕ → ℕ) → List ℕ → List Paste → List ℕ
 over shows text [] = text
 over shows text (p ∷ ps) = slice_set (over shows text ps) p.at (shows p.byte)
+
+-- the text of a paste-up: the one below with the pasted bytes put in, each as it is shown
+abbrev pub pasted_text : {G : Type 0} → (ℕ → ℕ) → (G → List ℕ) → PasteUp G → List ℕ
+pasted_text shows text s = over shows (text s.below) (paste_list s.pastes)
 
 -- a put over a galley that holds the pasted bytes ps: where they are full they are first written below and dropped
 pub record Pasting {G : Type 0} (text : G → List ℕ) (shows : ℕ → ℕ) (old : G) (ps : List Paste) (at b : ℕ) (new : G) (qs : List Paste) : Type 0 where

@@ -1,9 +1,8 @@
 // The paste-up's text and its calls.
-ghost use Rattle.std.specs.Prelude.{◌≡◌, ℕ, ◌+◌, ◌≤◌, true, List, [], length, is_ok};
+ghost use Rattle.std.specs.Prelude.{◌≡◌, true, [], length, is_ok};
 ghost use Rattle.galleys.specs.Galleys.{Put};
-ghost use Rattle.layers.specs.Pasted.{Laid, Pasting, over, paste_list};
+ghost use Rattle.layers.specs.Pasted.{Laid, Pasting, over, paste_list, pasted_text};
 ghost use Rattle.layers.specs.PastedTexts.{over-text};
-ghost use Rattle.std.proofs.Common.{rules};
 
 use super::paste::Paste;
 use super::paste_up::PasteUp;
@@ -15,8 +14,7 @@ use rules::refusal::Refusal;
 fn put_all<G: Galley>(galley: &mut G, pastes: &Pastes)
     ensures after { G.Galley.text galley.new ≡ over G.Galley.shows (G.Galley.text galley.old) (paste_list pastes.now) }
 {
-    for i in (0..pastes.held).rev() {
-        let Paste { at, byte } = pastes.all[i];
+    for &Paste { at, byte } in pastes.list.iter().rev() {
         let _ = galley.put(at, byte);
     }
 }
@@ -25,8 +23,7 @@ fn put_all<G: Galley>(galley: &mut G, pastes: &Pastes)
 fn lay<G: Galley>(galley: &G, pastes: &Pastes, at: usize, part: &mut [u8])
     ensures laid { Laid G.Galley.shows (paste_list pastes.now) at part.old part.new }
 {
-    for last in (0..pastes.held).rev() {
-        let Paste { at: place, byte } = pastes.all[last];
+    for &Paste { at: place, byte } in pastes.list.iter().rev() {
         if at <= place && place - at < part.len() {
             part[place - at] = galley.show(byte);
         }
@@ -49,35 +46,44 @@ impl<G: Galley> PasteUp<G> {
     pub fn held(&self) -> usize
         ensures value { result ≡ length (paste_list self.now.pastes) }
     {
-        self.pastes.held
+        self.pastes.list.len()
     }
 
     // Writes the pasted bytes below and drops them; the text does not change.
     pub fn spill(&mut self)
-        ensures below { G.Galley.text self.new.below ≡ over G.Galley.shows (G.Galley.text self.old.below) (paste_list self.old.pastes) }
+        ensures below { G.Galley.text self.new.below ≡ pasted_text G.Galley.shows G.Galley.text self.old }
         ensures held { paste_list self.new.pastes ≡ [] }
     {
         put_all(&mut self.below, &self.pastes);
         self.pastes = Pastes::new();
     }
 
+    // Pastes a byte, after a spill where one more would be one too many.
+    fn paste(&mut self, at: usize, b: u8)
+        ensures pasted { Pasting G.Galley.text G.Galley.shows self.old.below (paste_list self.old.pastes) at b self.new.below (paste_list self.new.pastes) }
+    {
+        if self.pastes.is_full(at) {
+            self.spill();
+        }
+        self.pastes.paste(at, b);
+    }
+
     // The galley below, after a spill, so that it has the paste-up's text.
     pub fn into_below(self) -> G
-        ensures text { G.Galley.text result ≡ over G.Galley.shows (G.Galley.text self.below) (paste_list self.pastes) }
+        ensures text { G.Galley.text result ≡ pasted_text G.Galley.shows G.Galley.text self }
     {
-        let PasteUp { below, pastes } = self;
-        let mut below = below;
+        let PasteUp { mut below, pastes } = self;
         put_all(&mut below, &pastes);
         below
     }
 }
 
 impl<G: Galley> Galley for PasteUp<G> {
-    ghost text = { λ s. over G.Galley.shows (G.Galley.text s.below) (paste_list s.pastes) };
+    ghost text = { pasted_text G.Galley.shows G.Galley.text };
 
     ghost shows = { G.Galley.shows };
 
-    ghost showing = { Prim.search rules };
+    ghost showing = { G.Galley.showing };
 
     ghost texts = { λ s. over-text G.Galley.shows (G.Galley.text s.below) G.Galley.showing (G.Galley.texts s.below) (paste_list s.pastes) };
 
@@ -97,16 +103,13 @@ impl<G: Galley> Galley for PasteUp<G> {
 
     // What is held afterwards, and what stands below.
     fn put(&mut self, at: usize, b: u8) -> Result<(), Refusal>
-        ensures put { Put (λ s. over G.Galley.shows (G.Galley.text s.below) (paste_list s.pastes)) self.old at (G.Galley.shows b) result self.new }
+        ensures put { Put (pasted_text G.Galley.shows G.Galley.text) self.old at (G.Galley.shows b) result self.new }
         ensures pasted { is_ok result ≡ true → Pasting G.Galley.text G.Galley.shows self.old.below (paste_list self.old.pastes) at b self.new.below (paste_list self.new.pastes) }
     {
         if at >= self.below.length() {
             return Err(Refusal::PastText);
         }
-        if self.pastes.is_full(at) {
-            self.spill();
-        }
-        self.pastes.paste(at, b);
+        self.paste(at, b);
         Ok(())
     }
 }

@@ -1,13 +1,9 @@
 // The pasted bytes of a layer.
-ghost use Rattle.std.specs.Prelude.{◌≡◌, ◌≤◌, length};
-
 use super::paste::Paste;
+use arrayvec::ArrayVec;
 
-// At most 32 pasted bytes, of which the first `held` of `all` are held.
+// At most 32 pasted bytes, the oldest first. They lie in the value itself, so that no call allocates.
 #[derive(Drop)]
 pub struct Pastes {
-    pub(super) all: [Paste; 32],
-    pub(super) held: usize,
-    ghost few: { held ≤ 32 },
-    ghost whole: { length all ≡ 32 },
+    pub(super) list: ArrayVec<Paste, 32>,
 }

@@ -1,9 +1,10 @@
 // Looking for, adding and replacing pasted bytes.
-ghost use Rattle.std.specs.Prelude.{◌≡◌, false, [], length};
-ghost use Rattle.layers.specs.Pasted.{first_at, is_full, paste_in, paste_list};
+ghost use Rattle.std.specs.Prelude.{◌≡◌, ◌≤◌, false, [], length, ◌==◌, position};
+ghost use Rattle.layers.specs.Pasted.{is_full, paste_in, paste_list};
 
 use super::paste::Paste;
 use super::pastes::Pastes;
+use arrayvec::ArrayVec;
 
 impl Pastes {
     // None is held.
@@ -11,28 +12,23 @@ impl Pastes {
         ensures value { paste_list result ≡ [] }
     {
         Pastes {
-            all: [Paste { at: 0, byte: 0 }; 32],
-            held: 0,
+            list: ArrayVec::new(),
         }
     }
 
-    // Which of them has the place; `held` where none has.
-    fn find(&self, at: usize) -> usize
-        ensures value { result ≡ first_at (paste_list self.now) at }
+    // Which of them has the place.
+    fn find(&self, at: usize) -> Option<usize>
+        ensures value { result ≡ position (λ p. p.at == at) (paste_list self.now) }
+        ensures few { length (paste_list self.now) ≤ 32 }
     {
-        for i in 0..self.held {
-            if self.all[i].at == at {
-                return i;
-            }
-        }
-        self.held
+        self.list.iter().position(|paste| paste.at == at)
     }
 
     // Whether one more place would be one too many.
     pub(super) fn is_full(&self, at: usize) -> bool
         ensures value { result ≡ is_full (paste_list self.now) at }
     {
-        self.find(at) == 32
+        self.list.is_full() && self.find(at).is_none()
     }
 
     // Replaces the byte at the place, or adds it.
@@ -40,10 +36,10 @@ impl Pastes {
         requires { is_full (paste_list self.old) at ≡ false }
         ensures after { paste_list self.new ≡ paste_in (paste_list self.old) at byte }
     {
-        let i = self.find(at);
-        let held = self.held.max(i + 1);
-        let mut all = self.all;
-        all[i] = Paste { at, byte };
-        *self = Pastes { all, held };
+        let paste = Paste { at, byte };
+        match self.find(at) {
+            Some(i) => self.list[i] = paste,
+            None => self.list.push(paste),
+        }
     }
 }

@@ -1,18 +1,11 @@
 use Rattle.std.proofs.Common.{map, length, take, drop, sym, ap, ◌∙◌}
 use lib.ListN.{length-map}
 use Rattle.std.proofs.lemmas.List.{take-map, drop-map}
-use Rattle.std.proofs.lemmas.Result.{err_from_is_err_and}
 use Rattle.rules.specs.Terms.{folded}
 use Rattle.galleys.proofs.Calls.{fetched-within}
 use Rattle.layers.specs.Folded.{folded_text}
-use Rattle.layers.proofs.Fetches.{fetched-through, refused-through}
+use Rattle.layers.proofs.Fetches.{fetched-through}
 use Rattle.layers.proofs.folded_galley.FoldedGalleyGalley.fetch.Goals as goal
-
-pub returns-in_err-fetch : goal.returns-in_err-fetch
-returns-in_err-fetch g c =
-    let text = g.G.Galley.text c.args.self.now.below in
-    let p = err_from_is_err_and c.from_residual.result c.from_residual.ensures.1 in
-    rw (p.1, p.2) (record { fetched = refused-through text (folded_text text) (length-map text folded) c.args.at c.args.buffer.now _ _ c.in_err-fetch.ensures.fetched })
 
 pub returns : goal.returns
 returns g c =
