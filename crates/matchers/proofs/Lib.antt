@@ -3,3 +3,4 @@ pub mod Scans
 pub mod Forward
 pub mod Filling
 pub mod Sizing
+pub mod Comparing

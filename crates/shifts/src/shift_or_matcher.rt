@@ -11,7 +11,7 @@ ghost use Rattle.std.proofs.Common.{rules, arith};
 use super::shift_or::ShiftOr;
 use super::starts::mark;
 use matchers::matcher::Matcher;
-use matchers::tables::low_table;
+use matchers::tables::clear_table;
 use rules::held::HeldTerm;
 use rules::refusal::Refusal;
 
@@ -92,7 +92,7 @@ impl Matcher for ShiftOr {
             return Err(Refusal::TermUnfit);
         }
         *self = ShiftOr {
-            table: low_table(&held),
+            table: clear_table(&held, 0),
             term: Some(held),
         };
         Ok(())

@@ -9,7 +9,7 @@ ghost use Rattle.std.proofs.Common.{rules, arith};
 
 use super::two_way::TwoWayShiftOr;
 use matchers::matcher::Matcher;
-use matchers::tables::high_table;
+use matchers::tables::clear_table;
 use rules::held::HeldTerm;
 use rules::refusal::Refusal;
 
@@ -171,7 +171,7 @@ impl Matcher for TwoWayShiftOr {
             return Err(Refusal::TermUnfit);
         }
         *self = TwoWayShiftOr {
-            table: high_table(&held),
+            table: clear_table(&held, 64),
             term: Some(held),
         };
         Ok(())
