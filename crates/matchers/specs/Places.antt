@@ -3,7 +3,7 @@ use Rattle.std.specs.Prelude.{◌≡◌, ℕ, zero, suc, ◌-◌, ◌*◌, ◌%�
 use Rattle.rules.specs.declared.held.HeldTerm.{HeldTerm}
 use Rattle.rules.specs.Held.{term_of}
 use Rattle.rules.specs.Words.{word_of}
-use Rattle.rules.specs.Terms.{Term, byte_matches}
+use Rattle.rules.specs.Terms.{Term, byte_matches, occurs}
 
 -- the byte b matches place i of the term, of which there are m
 unfoldable pub hits : Term → ℕ → ℕ → Bool
@@ -19,9 +19,13 @@ abbrev pub Rows : List ℕ → (ℕ → ℕ) → Type 0
 Rows table row = (b : ℕ) → b < 256 → slice_index table b ≡ row b
 
 -- the state after the first n bytes of the text: from the start, one step for each byte, with the byte's table word
-abbrev pub state_after : ℕ → (ℕ → ℕ → ℕ) → (ℕ → ℕ) → List ℕ → ℕ → ℕ
+abbrev pub state_after : {S W : Type 0} → S → (S → W → S) → (ℕ → W) → List ℕ → ℕ → S
 state_after start step row text zero = start
 state_after start step row text (suc n) = step (state_after start step row text n) (row (slice_index text n))
+
+-- an occurrence of m bytes ends after the first n bytes of the text
+abbrev pub ends_at : Term → List ℕ → ℕ → ℕ → Bool
+ends_at t text m n = nat_le m n && occurs t text (n - m)
 
 -- Shift-Or, 64 bits. The table's word: bit i is clear exactly when the byte matches place i
 abbrev pub or_row : Term → ℕ → ℕ
