@@ -1,5 +1,5 @@
 -- What the bits of a matcher's words mean: places of the term. Assumes nothing.
-use Rattle.std.specs.Prelude.{◌≡◌, ℕ, zero, suc, ◌-◌, ◌*◌, ◌%◌, ◌^◌, ◌<◌, ◌≤◌, Bool, not, ◌&&◌, List, [], length, Some, None, Option, bit_and, bit_or, nat_le, nat_lt, slice_index}
+use Rattle.std.specs.Prelude.{◌≡◌, ℕ, zero, suc, ◌-◌, ◌*◌, ◌%◌, ◌^◌, ◌<◌, Bool, not, ◌&&◌, List, [], length, Some, None, Option, bit_and, bit_or, nat_le, nat_lt, slice_index}
 use Rattle.rules.specs.declared.held.HeldTerm.{HeldTerm}
 use Rattle.rules.specs.Held.{term_of}
 use Rattle.rules.specs.Words.{word_of}
@@ -52,9 +52,3 @@ and_state t text n = state_after 0 and_step (and_row t) text n
 -- the word of 64 bits whose bit d + i is clear exactly when the byte matches place i, and so are the bits below d
 abbrev pub clear_row : Term → ℕ → ℕ → ℕ
 clear_row t d b = word_of (λ j. nat_le d j && not (hits t (j - d) b)) 64
-
--- m is the length of the term, of 1 to 64 bytes
-pub record Sized (t : Term) (m : ℕ) : Type 0 where
-  pub is : m ≡ length t.bytes
-  pub some : 0 < m
-  pub few : m ≤ 64

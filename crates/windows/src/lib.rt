@@ -3,3 +3,4 @@
 
 pub mod two_way;
 pub mod two_way_matcher;
+mod window;

@@ -1,6 +1,82 @@
-use Rattle.std.proofs.Common.{length, ap}
-use Rattle.matchers.proofs.Sizing.{held-sized}
+use Rattle.std.proofs.Common.{◌≡◌, ◌+◌, ◌-◌, ◌<◌, ◌≤◌, true, ◌⊎◌, length, sym, ap, ◌∙◌, inl, inr, arith}
+use Rattle.rules.specs.Held.{term_of}
+use Rattle.rules.specs.Terms.{occurs, scanned}
+use Rattle.rules.proofs.Helds.{held-length}
+use Rattle.matchers.proofs.Marking.{marked_below, marked-none}
+use Rattle.matchers.proofs.Scans.{lent_answer}
+use Rattle.windows.specs.Windows.{is_full, window_state}
+use Rattle.windows.proofs.Steps.{window-step}
+use Rattle.windows.proofs.Centres.{decided-window, decided-end}
 use Rattle.windows.proofs.two_way_matcher.TwoWayShiftOrMatcher.scan.Goals as goal
+use Rattle.windows.proofs.two_way_matcher.TwoWayShiftOrMatcher.scan.Goals.{else-steps-test, then-steps-test+then-is_full}
 
-pub word-requires : goal.word-requires
-word-requires c = (held-sized c.args.self.now.term c.in-Some.term (length c.bytes.result.now) c.in-Some.is (ap length c.bytes.ensures.value), c.if-stretch-gt127.false)
+pub windows-init : goal.windows-init
+windows-init c =
+    let h = c.in_ok-term.term.now in
+    let m = length c.bytes-m.result.now in
+    let long = held-length h in
+    let some : 0 < m = omega (arith, h.limited, ap length c.bytes-m.ensures.value) in
+    let none : 0 ≡ m - 1 + 1 - m = omega arith in
+    let p = occurs (term_of h) c.args.stretch.now in
+    (omega arith, marked-none p ∙ ap (marked_below p) none)
+
+pub steps-preserved : goal.steps-preserved
+steps-preserved c =
+    let t = term_of c.in_ok-term.term.now in
+    let text = c.args.stretch.now in
+    let at = c.windows.centre in
+    let j = c.steps.j in
+    let next : j ≡ j + 1 - 1 = omega arith in
+    window-step t text at j c.steps.state c.spread-state.result (omega arith) c.steps.invariant c.spread-state.ensures ∙ ap (window_state t text at) next
+
+pub windows-preserved : goal.windows-preserved
+windows-preserved c =
+    let h = c.in_ok-term.term.now in
+    let t = term_of h in
+    let text = c.args.stretch.now in
+    let at = c.windows.centre in
+    let m = ap length c.bytes-m.ensures.value in
+    let long = held-length h in
+    let before = c.windows.invariant.1 ∙ ap (λ k. marked_below (occurs t text) (at + 1 - k)) m in
+    let ends : (length t.bytes ≤ c.steps.j) ⊎ (is_full t c.steps.state ≡ true) = elim c.steps-test.branch [
+      | else-steps-test w ↦ inl (omega (arith, m))
+      | then-steps-test+then-is_full w ↦ inr (sym w.is_full.ensures ∙ w.if-is_full.true)
+    ] in
+    let marked = decided-window t text at c.steps.j c.windows.word c.steps.state c.mark-word.result (omega (arith, h.limited)) (omega (arith, h.short)) (omega (arith, m)) (omega (arith, m, h.limited)) c.steps.invariant ends before c.mark-word.ensures in
+    let next : at + 1 ≡ at + length c.bytes-m.result.now + 1 - length c.bytes-m.result.now = omega arith in
+    (omega arith, marked ∙ ap (marked_below (occurs t text)) next)
+
+pub returns-in_ok-term : goal.returns-in_ok-term
+returns-in_ok-term c =
+    let h = c.in_ok-term.term.now in
+    let t = term_of h in
+    let text = c.args.stretch.now in
+    let at = c.windows.centre in
+    let m = ap length c.bytes-m.ensures.value in
+    let long = held-length h in
+    record {
+      value = lent_answer c.args.self.now.term h text c.in_ok-term.ensures.value scanned c.windows.word
+          (c.windows.invariant.1 ∙ ap (λ k. marked_below (occurs t text) (at + 1 - k)) m
+          ∙ decided-end t text at (omega (arith, h.limited)) (omega (arith, m)) (omega (arith, m)));
+    }
+
+pub returns-in_ok-term-2 : goal.returns-in_ok-term-2
+returns-in_ok-term-2 c =
+    let h = c.in_ok-term.term.now in
+    let t = term_of h in
+    let text = c.args.stretch.now in
+    let at = c.windows.centre in
+    let m = ap length c.bytes-m.ensures.value in
+    let long = held-length h in
+    let before = c.windows.invariant.1 ∙ ap (λ k. marked_below (occurs t text) (at + 1 - k)) m in
+    let ends : (length t.bytes ≤ c.steps.j) ⊎ (is_full t c.steps.state ≡ true) = elim c.steps-test.branch [
+      | else-steps-test w ↦ inl (omega (arith, m))
+      | then-steps-test+then-is_full w ↦ inr (sym w.is_full.ensures ∙ w.if-is_full.true)
+    ] in
+    let marked = decided-window t text at c.steps.j c.windows.word c.steps.state c.mark-word.result (omega (arith, h.limited)) (omega (arith, h.short)) (omega (arith, m)) (omega (arith, m, h.limited)) c.steps.invariant ends before c.mark-word.ensures in
+    let next : at + 1 ≡ at + length t.bytes + 1 - length t.bytes = omega arith in
+    record {
+      value = lent_answer c.args.self.now.term h text c.in_ok-term.ensures.value scanned c.mark-word.result
+          (marked ∙ ap (marked_below (occurs t text)) next
+          ∙ decided-end t text (at + length t.bytes) (omega (arith, h.limited)) (omega (arith, m)) (omega arith));
+    }
