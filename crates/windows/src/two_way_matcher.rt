@@ -1,10 +1,12 @@
 // The calls of two-way Shift-Or.
-ghost use Rattle.std.specs.Prelude.{◌≡◌, None};
+ghost use Rattle.std.specs.Prelude.{◌≡◌, None, IfOk};
+ghost use Rattle.std.specs.Result.{result_map_both};
 ghost use Rattle.matchers.specs.Matchers.{exact_fits, of_term, of_stretch};
 ghost use Rattle.windows.specs.TwoWays.{two_way_term};
 ghost use Rattle.windows.specs.Windows.{two_way_row, two_way_state};
 ghost use Rattle.std.proofs.Common.{rules, arith};
 
+use super::reading::Reading;
 use super::two_way::TwoWayShiftOr;
 use super::window::{LAST_START, Window};
 use matchers::asked::held_for;
@@ -32,23 +34,25 @@ impl TwoWayShiftOr {
         Ok(self.table[b as usize])
     }
 
+    // The stretch, to be read by the table.
+    fn reading<'a>(&'a self, stretch: &'a [u8]) -> Result<Reading<'a>, Refusal>
+        ensures term { result_map_both (λ r. r.term.now) (λ e. e) result ≡ of_stretch (λ h _. h) self.now.term stretch.now }
+        ensures stretch { IfOk result (λ r. r.stretch.now ≡ stretch.now) }
+    {
+        let term = held_for(&self.term, stretch)?;
+        Ok(Reading {
+            table: &self.table,
+            term,
+            stretch,
+        })
+    }
+
     // The state of the window after the step, 0 for its start; none where there is no such window or step.
     pub fn state(&self, stretch: &[u8], window: usize, step: usize) -> Result<Option<u64>, Refusal>
         ensures value { result ≡ of_stretch (λ t text. two_way_state t text window step) (two_way_term self.now) stretch.now }
     {
-        let term = held_for(&self.term, stretch)?;
-        let m = term.bytes().len();
-        let first = window.saturating_mul(m);
-        if first > LAST_START || first + m > stretch.len() {
-            return Ok(None);
-        }
-        let window = Window {
-            table: &self.table,
-            term,
-            stretch,
-            centre: first + m - 1,
-        };
-        Ok(window.state(step))
+        let window = self.reading(stretch)?.window(window);
+        Ok(window.and_then(|window| window.state(step)))
     }
 }
 
@@ -76,25 +80,6 @@ impl Matcher for TwoWayShiftOr {
     }
 
     fn scan(&self, stretch: &[u8]) -> Result<u64, Refusal> {
-        let term = held_for(&self.term, stretch)?;
-        let m = term.bytes().len();
-        let mut word = 0;
-        'windows: for centre in (m - 1..stretch.len().min(LAST_START + m)).step_by(m) {
-            let window = Window {
-                table: &self.table,
-                term,
-                stretch,
-                centre,
-            };
-            let mut state = window.word_at(centre);
-            'steps: for j in 1..m {
-                if window.is_full(state) {
-                    break 'steps;
-                }
-                state = window.spread(j, state);
-            }
-            word = window.mark(word, state);
-        }
-        Ok(word)
+        Ok(self.reading(stretch)?.word())
     }
 }

@@ -31,5 +31,5 @@ pub returns : goal.returns
 returns c =
     let m = ap length c.bytes-m.ensures.value in
     let w = c.args.self.now in
-    let all : c.loop-q.q ≡ length (term_of w.term.now).bytes = omega (arith, m) in
-    c.loop-q.invariant ∙ ap (λ k. window_marked c.args.word c.args.state k w.centre c.loop-q.q) m ∙ ap (window_marked c.args.word c.args.state (length (term_of w.term.now).bytes) w.centre) all
+    let all : c.loop-q.q ≡ length (term_of w.reading.term.now).bytes = omega (arith, m) in
+    c.loop-q.invariant ∙ ap (λ k. window_marked c.args.word c.args.state k w.centre c.loop-q.q) m ∙ ap (window_marked c.args.word c.args.state (length (term_of w.reading.term.now).bytes) w.centre) all
