@@ -44,10 +44,7 @@ fn starts(m: usize, l: usize) -> usize
     ensures within { (s : ℕ) → s < 64 → nat_lt s result ≡ nat_le (s + m) l }
     ensures bound { result ≤ 64 }
 {
-    if m > l {
-        return 0;
-    }
-    (l - m).min(63) + 1
+    l.checked_sub(m).map_or(0, |last| last.min(63) + 1)
 }
 
 // The word of the term in the stretch.

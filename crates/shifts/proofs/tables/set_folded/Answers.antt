@@ -1,4 +1,4 @@
-use Rattle.std.proofs.Common.{◌≡◌, ℕ, ◌*◌, ◌%◌, ◌^◌, Bool, true, false, eqb, List, get_or, sym, ap, ◌∙◌, arith}
+use Rattle.std.proofs.Common.{◌≡◌, ℕ, ◌*◌, ◌%◌, ◌^◌, Bool, true, false, eqb, List, length, get_or, sym, ap, ◌∙◌, arith, length-set}
 use lib.Bits.{bit_or}
 use Rattle.std.proofs.lemmas.List.{set-get_or}
 use Rattle.std.proofs.lemmas.Bool.{eq-eqb, ne_eqb}
@@ -20,10 +20,10 @@ loop-b-preserved c =
     elim c.if-fold-sought.branch [
       | then-fold-sought w ↦
           let yes : eqb (folded b) (folded p) ≡ true = eq-eqb (folded b) (folded p) (sym mine ∙ w.if-fold-sought.true ∙ other) in
-          (omega arith, λ k l. ap (λ (xs : List ℕ). get_or xs k 0) w.table-is ∙ fill-hit start table hit F b c.loop-b.invariant.1 (omega arith) (omega arith) yes k l)
+          (ap length w.table-is ∙ length-set table b _ ∙ c.loop-b.invariant.0, λ k l. ap (λ (xs : List ℕ). get_or xs k 0) w.table-is ∙ fill-hit start table hit F b c.loop-b.invariant.1 (omega arith) (omega arith) yes k l)
       | else-fold-sought w ↦
           let no : eqb (folded b) (folded p) ≡ false = ne_eqb (folded b) (folded p) (λ e. w.if-fold-sought.false (mine ∙ e ∙ sym other)) in
-          (omega arith, λ k l. ap (λ (xs : List ℕ). get_or xs k 0) (w.table-is ∙ set-get_or table b 0) ∙ fill-miss start table hit F b c.loop-b.invariant.1 no k l)
+          (ap length (w.table-is ∙ set-get_or table b 0) ∙ c.loop-b.invariant.0, λ k l. ap (λ (xs : List ℕ). get_or xs k 0) (w.table-is ∙ set-get_or table b 0) ∙ fill-miss start table hit F b c.loop-b.invariant.1 no k l)
     ]
 
 pub returns : goal.returns
