@@ -14,9 +14,13 @@ abbrev pub held_places : Option HeldTerm → Term
 held_places None = record { bytes = []; limit = 0 }
 held_places (Some h) = term_of h
 
+-- the word that stands for each byte is the one that is to stand for it
+abbrev pub Filled : {W : Type 0} → (ℕ → W) → (ℕ → W) → Type 0
+Filled words due = (b : ℕ) → b < 256 → words b ≡ due b
+
 -- a table of 256 words, one for each byte
 abbrev pub Rows : List ℕ → (ℕ → ℕ) → Type 0
-Rows table row = (b : ℕ) → b < 256 → slice_index table b ≡ row b
+Rows table row = Filled (λ b. slice_index table b) row
 
 -- the state after the first n bytes of the text: from the start, one step for each byte, with the byte's table word
 abbrev pub state_after : {S W : Type 0} → S → (S → W → S) → (ℕ → W) → List ℕ → ℕ → S

@@ -7,8 +7,7 @@ use Rattle.std.proofs.lemmas.List.Sums.{fold_push}
 use Rattle.std.proofs.lemmas.Bool.{cases_Bool, cases_lt, le-leb, lt-leb}
 use Rattle.rules.specs.Terms.{Term, occurs, scanned}
 use Rattle.rules.proofs.Occurs.{occurs-past}
-use Rattle.matchers.specs.Places.{ends_at, state_after}
-use Rattle.shifts.specs.Filled.{Filled}
+use Rattle.matchers.specs.Places.{Filled, ends_at, state_after}
 use Rattle.shifts.specs.Marks.{marked_at}
 use Rattle.matchers.proofs.Marking.{marked_below, marked-none, marked_more, marked_other, marked_all}
 

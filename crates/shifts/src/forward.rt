@@ -4,8 +4,7 @@ ghost use Rattle.std.specs.Coded.{Coded};
 ghost use Rattle.rules.specs.Held.{term_of};
 ghost use Rattle.rules.specs.Terms.{Term};
 ghost use Rattle.matchers.specs.Matchers.{Fitting};
-ghost use Rattle.matchers.specs.Places.{ends_at, held_places, state_after};
-ghost use Rattle.shifts.specs.Filled.{Filled};
+ghost use Rattle.matchers.specs.Places.{Filled, ends_at, held_places, state_after};
 
 use rules::held::HeldTerm;
 

@@ -3,8 +3,8 @@ ghost use Rattle.std.specs.Prelude.{◌≡◌, length, true, None};
 ghost use Rattle.std.specs.Option.{ForSome};
 ghost use Rattle.rules.specs.Held.{term_of};
 ghost use Rattle.matchers.specs.Matchers.{of_term, of_stretch};
-ghost use Rattle.matchers.specs.Places.{held_places, state_after};
-ghost use Rattle.shifts.specs.Filled.{Filled, Filled-prop};
+ghost use Rattle.matchers.specs.Places.{Filled, held_places, state_after};
+ghost use Rattle.shifts.specs.Filled.{Filled-prop};
 
 use super::forward::Forward;
 use super::starts::mark;

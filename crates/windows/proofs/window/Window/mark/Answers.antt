@@ -1,7 +1,5 @@
-use Rattle.std.proofs.Common.{◌≡◌, ◌-◌, ◌*◌, ◌%◌, ◌^◌, ◌≤◌, length, ap, ◌∙◌, inl, inr, arith, rules}
+use Rattle.std.proofs.Common.{◌-◌, ◌*◌, ◌%◌, ◌^◌, ◌≤◌, length, ap, ◌∙◌, inl, inr, arith, rules}
 use lib.Bits.{bit_or}
-use Rattle.rules.specs.Held.{term_of}
-use Rattle.windows.specs.Windows.{window_marked}
 use Rattle.windows.proofs.Centres.{window-none, window-hit, window-miss}
 use Rattle.windows.proofs.window.Window.mark.Goals as goal
 use Rattle.windows.proofs.window.Window.mark.Goals.{then-state-m-eq0+then-self-q-le-LAST_START, else-state-m-eq0, else-state-m-eq0-via-then-state-m-eq0+else-self-q-le-LAST_START, else-state-m-eq0-via-else-state-m-eq0}
@@ -26,10 +24,3 @@ loop-q-preserved c =
         | else-state-m-eq0-via-else-state-m-eq0 w' ↦ miss (inl w'.if-state-m-eq0.false)
       ]
     ]
-
-pub returns : goal.returns
-returns c =
-    let m = ap length c.bytes-m.ensures.value in
-    let w = c.args.self.now in
-    let all : c.loop-q.q ≡ length (term_of w.reading.term.now).bytes = omega (arith, m) in
-    c.loop-q.invariant ∙ ap (λ k. window_marked c.args.word c.args.state k w.centre c.loop-q.q) m ∙ ap (window_marked c.args.word c.args.state (length (term_of w.reading.term.now).bytes) w.centre) all

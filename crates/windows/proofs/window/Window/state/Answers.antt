@@ -31,14 +31,6 @@ loop-j-preserved c =
     let next : j ≡ j + 1 - 1 = omega arith in
     (subst (λ (k : ℕ). Kept w k c.spread-state.result) next (kept_more w j c.loop-j.state c.spread-state.result (omega arith) c.loop-j.invariant.0 (sym c.is_full.ensures ∙ c.if-is_full.false) c.spread-state.ensures), omega arith)
 
--- no step was asked for
-pub returns-else-step-bytes : goal.returns-else-step-bytes
-returns-else-step-bytes c =
-    let w = c.args.self.now in
-    let start : c.loop-j.j - 1 ≡ c.args.step = omega arith in
-    let kept = subst (λ (k : ℕ). Kept w k c.loop-j.state) start c.loop-j.invariant.0 in
-    steps-kept (term_of w.reading.term.now) w.reading.stretch.now w.centre c.loop-j.state c.args.step kept.0 kept.1 ∙ sym (within w c.args.step (omega (arith, ap length c.bytes.ensures.value)))
-
 -- after the last step
 pub returns-else-is_full : goal.returns-else-is_full
 returns-else-is_full c =
