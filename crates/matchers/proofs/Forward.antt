@@ -1,13 +1,13 @@
 -- The forward rule, once for every view of a row of places as a word, and what a marked start means. Assumes nothing.
-use Rattle.std.proofs.Common.{◌≡◌, ℕ, zero, suc, ◌+◌, ◌-◌, ◌*◌, ◌/◌, ◌%◌, ◌^◌, ◌<◌, ◌≤◌, Bool, true, false, not, ◌&&◌, ◌||◌, eqb, ltb, leb, List, length, get_or, Decides, sym, refl, ap, ◌∙◌, ⊎_elim, arith}
+use Rattle.std.proofs.Common.{◌≡◌, ℕ, zero, suc, ◌+◌, ◌-◌, ◌*◌, ◌/◌, ◌%◌, ◌^◌, ◌<◌, ◌≤◌, Bool, true, false, not, ◌&&◌, ◌||◌, eqb, ltb, leb, List, length, get_or, Decides, sym, refl, ap, ◌∙◌, ⊎_elim, arith, lit<}
 use mathlib.Core.Bool.{and-true, and-false, and_comm}
 use lib.Bits.{bit_and, bit_or}
 use Rattle.std.proofs.lemmas.Bool.Decides.{nat_tests, Decides-and}
 use Rattle.std.proofs.lemmas.Bool.{lt-ltb, le-ltb, le-leb, leb-true, lt-leb, ne_eqb, cases_lt, cases_Bool}
 use Rattle.rules.specs.Words.{bit_of, word_of, all}
 use Rattle.rules.specs.Terms.{Term, byte_matches, front, occurs}
-use Rattle.rules.proofs.Words.{word-or, word_and, word_shl, word_same, word-one, word_test, all-is, all_same}
-use Rattle.matchers.specs.Places.{hits, state_after}
+use Rattle.rules.proofs.Words.{word_none, word_ones, word-or, word_and, word_shl, word_same, word-one, word_test, all-is, all_same}
+use Rattle.matchers.specs.Places.{hits, state_after, ends_at, or_step, or_state, and_step, and_state}
 
 -- the first r places match the text's bytes from s on
 abbrev pub places_from : Term → List ℕ → ℕ → ℕ → Bool
@@ -98,10 +98,6 @@ occurs-each t text s =
     let d = Decides-and (leb (s + m) (length text)) (places_from t text s m) (leb-true (s + m) (length text), le-leb (s + m) (length text)) (all-is (λ j. hits t j (get_or text (s + j) 0)) m) in
     (λ e. d.0 (sym (occurs-places t text s) ∙ e), λ h. occurs-places t text s ∙ d.1 h)
 
--- an occurrence of m bytes ends after the first n
-abbrev pub ends_at : Term → List ℕ → ℕ → ℕ → Bool
-ends_at t text m n = leb m n && occurs t text (n - m)
-
 -- where the last place lives, an occurrence ends; not elsewhere
 pub live-last : (t : Term) (text : List ℕ) (n m : ℕ) → m ≡ length t.bytes → 0 < m → n ≤ length text → live t text n (m - 1) ≡ ends_at t text m n
 live-last t text n m is z l =
@@ -137,3 +133,20 @@ test-clear p i w l = ap (λ x. eqb x 0) (word_test (λ j. not (p j)) i w l) ∙ 
 
 pub test-set : (p : ℕ → Bool) (i w : ℕ) → i < w → eqb (bit_and (word_of p w / 2 ^ i) 1) 1 ≡ p i
 test-set p i w l = ap (λ x. eqb x 1) (word_test p i w l) ∙ one_set (p i)
+
+-- what the states of the two forward matchers say
+pub or-lives : (t : Term) (text : List ℕ) (n : ℕ) → or_state t text n ≡ word_of (λ i. not (live t text n i)) 64
+or-lives t text n =
+    state-lives (λ p. word_of (λ i. not (p i)) 64) (clear-same 64) (2 ^ 64 - 1) or_step (word_ones 64) (λ p r. step_clear p r 64) t text n
+
+pub and-lives : (t : Term) (text : List ℕ) (n : ℕ) → and_state t text n ≡ word_of (live t text n) 32
+and-lives t text n =
+    state-lives (λ p. word_of p 32) (set_same 32) 0 and_step (sym (word_none (λ _. false) 32 (λ _ _. refl))) (λ p r. step_set p r 32 (lit< tt)) t text n
+
+-- where an occurrence ends
+module _ (t : Term) (text : List ℕ) (n m : ℕ) (is : m ≡ length t.bytes) (some : 0 < m) (within : n ≤ length text) where
+  pub or-ends : m ≤ 64 → eqb (bit_and (or_state t text n / 2 ^ (m - 1)) 1) 0 ≡ ends_at t text m n
+  or-ends few = ap (λ x. eqb (bit_and (x / 2 ^ (m - 1)) 1) 0) (or-lives t text n) ∙ test-clear (live t text n) (m - 1) 64 (omega arith) ∙ live-last t text n m is some within
+
+  pub and-ends : m ≤ 32 → eqb (bit_and (and_state t text n / 2 ^ (m - 1)) 1) 1 ≡ ends_at t text m n
+  and-ends few = ap (λ x. eqb (bit_and (x / 2 ^ (m - 1)) 1) 1) (and-lives t text n) ∙ test-set (live t text n) (m - 1) 32 (omega arith) ∙ live-last t text n m is some within

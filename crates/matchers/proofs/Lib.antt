@@ -2,4 +2,4 @@ pub mod Marking
 pub mod Scans
 pub mod Forward
 pub mod Filling
-pub mod Sizing
+pub mod Comparing

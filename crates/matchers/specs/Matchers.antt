@@ -31,8 +31,8 @@ abbrev pub of_term : {A : Type 0} → (Term → A) → Option Term → Result A 
 of_term f None = Err NoTermHeld
 of_term f (Some t) = Ok (f t)
 
--- an answer of the held term and a stretch, refused where no term is held, then where the stretch is over 127 bytes
-abbrev pub of_stretch : {A : Type 0} → (Term → List ℕ → A) → Option Term → List ℕ → Result A Refusal
+-- an answer of what is held and a stretch, refused where no term is held, then where the stretch is over 127 bytes
+abbrev pub of_stretch : {T A : Type 0} → (T → List ℕ → A) → Option T → List ℕ → Result A Refusal
 of_stretch f None stretch = Err NoTermHeld
 of_stretch f (Some t) stretch = cond (nat_le (length stretch) 127) (Ok (f t stretch)) (Err StretchTooLong)
 

@@ -1,9 +1,9 @@
 -- What the bits of a matcher's words mean: places of the term. Assumes nothing.
-use Rattle.std.specs.Prelude.{◌≡◌, ℕ, zero, suc, ◌-◌, ◌*◌, ◌%◌, ◌^◌, ◌<◌, ◌≤◌, Bool, not, ◌&&◌, List, [], length, Some, None, Option, bit_and, bit_or, nat_le, nat_lt, slice_index}
+use Rattle.std.specs.Prelude.{◌≡◌, ℕ, zero, suc, ◌-◌, ◌*◌, ◌%◌, ◌^◌, ◌<◌, Bool, not, ◌&&◌, List, [], length, Some, None, Option, bit_and, bit_or, nat_le, nat_lt, slice_index}
 use Rattle.rules.specs.declared.held.HeldTerm.{HeldTerm}
 use Rattle.rules.specs.Held.{term_of}
 use Rattle.rules.specs.Words.{word_of}
-use Rattle.rules.specs.Terms.{Term, byte_matches}
+use Rattle.rules.specs.Terms.{Term, byte_matches, occurs}
 
 -- the byte b matches place i of the term, of which there are m
 unfoldable pub hits : Term → ℕ → ℕ → Bool
@@ -14,14 +14,22 @@ abbrev pub held_places : Option HeldTerm → Term
 held_places None = record { bytes = []; limit = 0 }
 held_places (Some h) = term_of h
 
+-- the word that stands for each byte is the one that is to stand for it
+abbrev pub Filled : {W : Type 0} → (ℕ → W) → (ℕ → W) → Type 0
+Filled words due = (b : ℕ) → b < 256 → words b ≡ due b
+
 -- a table of 256 words, one for each byte
 abbrev pub Rows : List ℕ → (ℕ → ℕ) → Type 0
-Rows table row = (b : ℕ) → b < 256 → slice_index table b ≡ row b
+Rows table row = Filled (λ b. slice_index table b) row
 
 -- the state after the first n bytes of the text: from the start, one step for each byte, with the byte's table word
-abbrev pub state_after : ℕ → (ℕ → ℕ → ℕ) → (ℕ → ℕ) → List ℕ → ℕ → ℕ
+abbrev pub state_after : {S W : Type 0} → S → (S → W → S) → (ℕ → W) → List ℕ → ℕ → S
 state_after start step row text zero = start
 state_after start step row text (suc n) = step (state_after start step row text n) (row (slice_index text n))
+
+-- an occurrence of m bytes ends after the first n bytes of the text
+abbrev pub ends_at : Term → List ℕ → ℕ → ℕ → Bool
+ends_at t text m n = nat_le m n && occurs t text (n - m)
 
 -- Shift-Or, 64 bits. The table's word: bit i is clear exactly when the byte matches place i
 abbrev pub or_row : Term → ℕ → ℕ
@@ -48,9 +56,3 @@ and_state t text n = state_after 0 and_step (and_row t) text n
 -- the word of 64 bits whose bit d + i is clear exactly when the byte matches place i, and so are the bits below d
 abbrev pub clear_row : Term → ℕ → ℕ → ℕ
 clear_row t d b = word_of (λ j. nat_le d j && not (hits t (j - d) b)) 64
-
--- m is the length of the term, of 1 to 64 bytes
-pub record Sized (t : Term) (m : ℕ) : Type 0 where
-  pub is : m ≡ length t.bytes
-  pub some : 0 < m
-  pub few : m ≤ 64

@@ -5,6 +5,7 @@ ghost use Rattle.rules.specs.Terms.{front, scanned};
 ghost use Rattle.matchers.specs.Compare.{comparer_term, comparer_fits};
 ghost use Rattle.std.proofs.Common.{rules};
 
+use super::asked::held_for;
 use super::matcher::Matcher;
 use rules::bytes::byte_matches;
 use rules::held::HeldTerm;
@@ -30,14 +31,12 @@ fn matches_at(term: &HeldTerm, stretch: &[u8], s: usize) -> bool
     requires { s + length (term_of term.now).bytes ≤ length stretch.now }
     ensures { result ≡ front (term_of term.now) stretch.now s (length (term_of term.now).bytes) }
 {
-    let bytes = term.bytes();
     let limit = term.limit();
-    for i in 0..bytes.len() {
-        if !byte_matches(limit, i, bytes[i], stretch[s + i]) {
-            return false;
-        }
-    }
-    true
+    term.bytes()
+        .iter()
+        .zip(&stretch[s..])
+        .enumerate()
+        .all(|(i, (p, b))| byte_matches(limit, i, *p, *b))
 }
 
 // How many of the first 64 starts have the term's end within the stretch.
@@ -45,10 +44,7 @@ fn starts(m: usize, l: usize) -> usize
     ensures within { (s : ℕ) → s < 64 → nat_lt s result ≡ nat_le (s + m) l }
     ensures bound { result ≤ 64 }
 {
-    if m > l {
-        return 0;
-    }
-    (l - m).min(63) + 1
+    l.checked_sub(m).map_or(0, |last| last.min(63) + 1)
 }
 
 // The word of the term in the stretch.
@@ -72,7 +68,7 @@ impl Matcher for Comparer {
     ghost fitting = { Prim.search rules };
 
     fn fits(&self, m: usize, k: usize) -> bool {
-        1 <= m && m <= 64 && k < m
+        (1..=64).contains(&m) && k < m
     }
 
     fn prepare(&mut self, term: &[u8], k: usize) -> Result<(), Refusal> {
@@ -81,12 +77,7 @@ impl Matcher for Comparer {
     }
 
     fn scan(&self, stretch: &[u8]) -> Result<u64, Refusal> {
-        let Some(term) = &self.term else {
-            return Err(Refusal::NoTermHeld);
-        };
-        if stretch.len() > 127 {
-            return Err(Refusal::StretchTooLong);
-        }
+        let term = held_for(&self.term, stretch)?;
         Ok(word(term, stretch))
     }
 }

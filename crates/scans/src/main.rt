@@ -1,8 +1,14 @@
 // Runs every matcher on a table of terms and stretches, and asks for table words and states. What it prints is held to what the plain search in reference/ finds.
 #![tactic(auto)]
 
+mod case;
+mod printed;
+
+use case::{Case, Kind};
 use matchers::comparer::Comparer;
 use matchers::matcher::Matcher;
+use printed::Printed;
+use rules::refusal::Refusal;
 use shifts::shift_and::ShiftAnd;
 use shifts::shift_or::ShiftOr;
 use windows::two_way::TwoWayShiftOr;
@@ -16,99 +22,38 @@ struct All {
     shift_and: ShiftAnd,
 }
 
-// A number from a place, spread over its bits.
-fn mixed(i: usize) -> usize {
-    ((i & 0xffff) as u32).wrapping_mul(2654435761) as usize >> 16
-}
-
-// Byte `i` of the stretch of a kind, for terms of `m` bytes: repeats, a period of two, few letters, all byte values, words in both cases.
-fn stretch_byte(kind: usize, i: usize, m: usize) -> u8 {
-    match kind {
-        0 => b'a',
-        1 => b"ab"[i % 2],
-        2 => b"abAB \t\n\r"[mixed(i) % 8],
-        3 => ((i & 0xff) * 37 + 11 & 0xff) as u8,
-        _ => {
-            let b = b"the cat and "[i % m.max(1) % 12];
-            match (i / m.max(1) % 3, b) {
-                (1, b' ') => b'\t',
-                (1, _) => b.to_ascii_uppercase(),
-                (2, b' ') => b'\n',
-                _ => b,
-            }
-        }
-    }
-}
-
-// Byte `i` of the term of a kind: the stretch's bytes from some place on.
-fn term_byte(kind: usize, i: usize, m: usize) -> u8 {
-    match kind {
-        2 => stretch_byte(2, (i & 0xff) + 5, m),
-        3 => stretch_byte(3, (i & 0xff) + 9, m),
-        _ => stretch_byte(kind, i, m),
-    }
-}
-
-// The word, or the number of the refusal as 'r' and the number.
-fn show<M: Matcher>(
-    rt: &HostRuntime,
+// The word of the stretch, by the matcher prepared for the term.
+fn found<M: Matcher>(
     matcher: &mut M,
     term: &[u8],
     k: usize,
     stretch: &[u8],
-) -> anyhow::Result<()> {
-    match matcher.prepare(term, k) {
-        Ok(()) => {}
-        Err(refusal) => {
-            let number = u8::from(refusal);
-            print!(rt; " r{number}")?;
-            return Ok(());
-        }
-    }
-    match matcher.scan(stretch) {
-        Ok(word) => print!(rt; " {word}")?,
-        Err(refusal) => {
-            let number = u8::from(refusal);
-            print!(rt; " r{number}")?;
-        }
-    }
-    Ok(())
+) -> Result<u64, Refusal> {
+    matcher.prepare(term, k)?;
+    matcher.scan(stretch)
 }
 
 // One line: the words of the four matchers.
-fn line(
-    rt: &HostRuntime,
-    all: &mut All,
-    kind: usize,
-    m: usize,
-    k: usize,
-    l: usize,
-) -> anyhow::Result<()> {
-    let mut term = [0u8; 65];
-    for (i, b) in term.iter_mut().enumerate() {
-        *b = term_byte(kind, i, m);
-    }
-    let mut stretch = [0u8; 128];
-    for (i, b) in stretch.iter_mut().enumerate() {
-        *b = stretch_byte(kind, i, m);
-    }
-    let term = &term[0..m.min(65)];
-    let stretch = &stretch[0..l.min(128)];
-    print!(rt; "{kind} {m} {k} {l}:")?;
-    show(rt, &mut all.comparer, term, k, stretch)?;
-    show(rt, &mut all.shift_or, term, k, stretch)?;
-    show(rt, &mut all.two_way, term, k, stretch)?;
-    show(rt, &mut all.shift_and, term, k, stretch)?;
-    println!(rt; "")?;
+fn line(rt: &HostRuntime, all: &mut All, case: Case) -> anyhow::Result<()> {
+    let term = case.term();
+    let stretch = case.stretch();
+    let k = case.k;
+    let term = &term[..case.m.min(65)];
+    let stretch = &stretch[..case.l.min(128)];
+    let comparer = Printed::from(found(&mut all.comparer, term, k, stretch));
+    let shift_or = Printed::from(found(&mut all.shift_or, term, k, stretch));
+    let two_way = Printed::from(found(&mut all.two_way, term, k, stretch));
+    let shift_and = Printed::from(found(&mut all.shift_and, term, k, stretch));
+    println!(rt; "{case}: {comparer} {shift_or} {two_way} {shift_and}")?;
     Ok(())
 }
 
 // The lines of a kind and a length, for each limit and each length of the stretch.
-fn lines(rt: &HostRuntime, all: &mut All, kind: usize, m: usize) -> anyhow::Result<()> {
+fn lines(rt: &HostRuntime, all: &mut All, kind: Kind, m: usize) -> anyhow::Result<()> {
     let longest = m.max(1) - 1;
     for k in [0, 1, longest] {
         for l in [0, 1, longest, m, 63, 64, 126, 127, 128] {
-            line(rt, all, kind, m, k, l)?;
+            line(rt, all, Case { kind, m, k, l })?;
         }
     }
     Ok(())
@@ -116,8 +61,7 @@ fn lines(rt: &HostRuntime, all: &mut All, kind: usize, m: usize) -> anyhow::Resu
 
 // The table words of some bytes.
 fn table_words(rt: &HostRuntime, all: &All, bytes: &[u8]) -> anyhow::Result<()> {
-    for b in bytes {
-        let byte = *b;
+    for &byte in bytes {
         if let Ok(word) = all.shift_or.table_word(byte) {
             println!(rt; "or table {byte}: {word}")?;
         }
@@ -134,7 +78,7 @@ fn table_words(rt: &HostRuntime, all: &All, bytes: &[u8]) -> anyhow::Result<()> 
 // The states of the forward matchers after the first bytes of the stretch.
 fn forward_states(rt: &HostRuntime, all: &All, stretch: &[u8]) -> anyhow::Result<()> {
     for n in 0..stretch.len() {
-        let read = &stretch[0..n];
+        let read = &stretch[..n];
         if let Ok(state) = all.shift_or.state(read) {
             println!(rt; "or state {n}: {state}")?;
         }
@@ -149,20 +93,14 @@ fn forward_states(rt: &HostRuntime, all: &All, stretch: &[u8]) -> anyhow::Result
 fn window_states(rt: &HostRuntime, all: &All, stretch: &[u8]) -> anyhow::Result<()> {
     for window in 0..5 {
         for step in 0..6 {
-            match all.two_way.state(stretch, window, step) {
-                Ok(Some(state)) => println!(rt; "window {window} step {step}: {state}")?,
-                Ok(None) => println!(rt; "window {window} step {step}: none")?,
-                Err(refusal) => {
-                    let number = u8::from(refusal);
-                    println!(rt; "window {window} step {step}: r{number}")?;
-                }
-            }
+            let state = Printed(all.two_way.state(stretch, window, step));
+            println!(rt; "window {window} step {step}: {state}")?;
         }
     }
     Ok(())
 }
 
-// Tables and states for the term, which matches in its own case.
+// Tables and states for the term, which matches in its own case; a matcher that it does not fit keeps its own.
 fn inside(rt: &HostRuntime, all: &mut All, term: &[u8], stretch: &[u8]) -> anyhow::Result<()> {
     let m = term.len();
     println!(rt; "inside {m}")?;
@@ -182,7 +120,7 @@ fn main(rt: HostRuntime) -> anyhow::Result<()> {
         shift_and: ShiftAnd::new(),
     };
     window_states(&rt, &all, b"")?;
-    for kind in 0..5 {
+    for kind in Kind::ALL {
         for m in [0, 1, 2, 31, 32, 33, 63, 64, 65] {
             lines(&rt, &mut all, kind, m)?;
         }
@@ -190,10 +128,5 @@ fn main(rt: HostRuntime) -> anyhow::Result<()> {
     inside(&rt, &mut all, b"a", b"abcaa")?;
     inside(&rt, &mut all, b"ab", b"ababaB ab")?;
     inside(&rt, &mut all, b"abcab", b"xabcabcabxabcabc")?;
-    inside(
-        &rt,
-        &mut all,
-        b"aaaaaaaaaaaaaaaaaaaaaaaaaaaaaaaaaaaaaaaaaaaaaaaaaaaaaaaaaaaaaaaa",
-        b"aaaaaaaaaaaaaaaaaaaaaaaaaaaaaaaaaaaaaaaaaaaaaaaaaaaaaaaaaaaaaaaaaa",
-    )
+    inside(&rt, &mut all, &[b'a'; 64], &[b'a'; 66])
 }

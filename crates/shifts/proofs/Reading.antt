@@ -1,39 +1,34 @@
 -- A forward matcher reads on: its state, where an occurrence ends, and the starts it marks. Assumes nothing.
-use Rattle.std.proofs.Common.{◌≡◌, ℕ, ◌+◌, ◌-◌, ◌*◌, ◌/◌, ◌%◌, ◌^◌, ◌<◌, ◌≤◌, min, Bool, true, false, cond, not, ◌&&◌, eqb, leb, List, length, get_or, sym, refl, ap, ◌∙◌, ⊎_elim, add-one, arith, lit<}
-use lib.Bits.{bit_and, bit_or}
+use Rattle.std.proofs.Common.{◌≡◌, ℕ, zero, suc, ◌+◌, ◌-◌, ◌*◌, ◌%◌, ◌^◌, ◌<◌, ◌≤◌, min, Bool, true, false, cond, ◌&&◌, leb, List, length, take, get_or, sym, refl, ap, ◌∙◌, ⊎_elim, add-one, arith}
+use lib.Bits.{bit_or}
+use Rattle.std.specs.List.{fold}
+use Rattle.std.proofs.lemmas.List.{take_all, take_more}
+use Rattle.std.proofs.lemmas.List.Sums.{fold_push}
 use Rattle.std.proofs.lemmas.Bool.{cases_Bool, cases_lt, le-leb, lt-leb}
-use Rattle.rules.specs.Words.{word_of}
 use Rattle.rules.specs.Terms.{Term, occurs, scanned}
 use Rattle.rules.proofs.Occurs.{occurs-past}
-use Rattle.rules.proofs.Words.{word_none, word_ones}
-use Rattle.matchers.specs.Places.{Rows, state_after, or_step, or_state, and_step, and_state}
+use Rattle.matchers.specs.Places.{Filled, ends_at, state_after}
 use Rattle.shifts.specs.Marks.{marked_at}
-use Rattle.matchers.proofs.Forward.{live, live-last, ends_at, state-lives, step_clear, step_set, clear-same, set_same, test-clear, test-set}
 use Rattle.matchers.proofs.Marking.{marked_below, marked-none, marked_more, marked_other, marked_all}
 
--- one byte more, by the table
-pub state-more : (start : ℕ) (step : ℕ → ℕ → ℕ) (row : ℕ → ℕ) (table text : List ℕ) (n state more : ℕ) → Rows table row → get_or text n 0 < 256 →
-    more ≡ step state (get_or table (get_or text n 0) 0) → state ≡ state_after start step row text n → more ≡ state_after start step row text (n + 1)
-state-more start step row table text n state more rows b e s =
-    e ∙ ap (λ x. step x (get_or table (get_or text n 0) 0)) s ∙ ap (λ x. step (state_after start step row text n) x) (rows (get_or text n 0) b)
-    ∙ sym (ap (λ k. state_after start step row text k) (add-one n))
+-- one byte more
+pub state-more : {S W : Type 0} (start : S) (step : S → W → S) (words : ℕ → W) (text : List ℕ) (n : ℕ) (state more : S) (word : W) →
+    word ≡ words (get_or text n 0) → more ≡ step state word → state ≡ state_after start step words text n → more ≡ state_after start step words text (n + 1)
+state-more start step words text n state more word w e s =
+    e ∙ ap (λ x. step x word) s ∙ ap (λ x. step (state_after start step words text n) x) w ∙ sym (ap (λ k. state_after start step words text k) (add-one n))
 
--- what the states of the two forward matchers say
-pub or-lives : (t : Term) (text : List ℕ) (n : ℕ) → or_state t text n ≡ word_of (λ i. not (live t text n i)) 64
-or-lives t text n =
-    state-lives (λ p. word_of (λ i. not (p i)) 64) (clear-same 64) (2 ^ 64 - 1) or_step (word_ones 64) (λ p r. step_clear p r 64) t text n
-
-pub and-lives : (t : Term) (text : List ℕ) (n : ℕ) → and_state t text n ≡ word_of (live t text n) 32
-and-lives t text n =
-    state-lives (λ p. word_of p 32) (set_same 32) 0 and_step (sym (word_none (λ _. false) 32 (λ _ _. refl))) (λ p r. step_set p r 32 (lit< tt)) t text n
-
--- where an occurrence ends
-module _ (t : Term) (text : List ℕ) (n m : ℕ) (is : m ≡ length t.bytes) (some : 0 < m) (within : n ≤ length text) where
-  pub or-ends : m ≤ 64 → eqb (bit_and (or_state t text n / 2 ^ (m - 1)) 1) 0 ≡ ends_at t text m n
-  or-ends few = ap (λ x. eqb (bit_and (x / 2 ^ (m - 1)) 1) 0) (or-lives t text n) ∙ test-clear (live t text n) (m - 1) 64 (omega arith) ∙ live-last t text n m is some within
-
-  pub and-ends : m ≤ 32 → eqb (bit_and (and_state t text n / 2 ^ (m - 1)) 1) 1 ≡ ends_at t text m n
-  and-ends few = ap (λ x. eqb (bit_and (x / 2 ^ (m - 1)) 1) 1) (and-lives t text n) ∙ test-set (live t text n) (m - 1) 32 (omega arith) ∙ live-last t text n m is some within
+-- all bytes, from first to last
+pub state-fold : {S W : Type 0} (start : S) (step : S → W → S) (words due : ℕ → W) (text : List ℕ) → Filled words due → ((i : ℕ) → get_or text i 0 < 256) →
+    fold (λ a b. step a (words b)) start text ≡ state_after start step due text (length text)
+state-fold start step words due text filled fits = ap (fold (λ a b. step a (words b)) start) (sym (take_all (length text) text (omega arith))) ∙ so_far (length text) (omega arith)
+  where
+    so_far : (n : ℕ) → n ≤ length text → fold (λ a b. step a (words b)) start (take n text) ≡ state_after start step due text n
+    so_far zero l = refl
+    so_far (suc n) l =
+        ap (fold (λ a b. step a (words b)) start) (ap (λ k. take k text) (sym (add-one n)) ∙ take_more text n 0 (omega arith))
+        ∙ fold_push (λ a b. step a (words b)) start (take n text) (get_or text n 0)
+        ∙ ap (λ a. step a (words (get_or text n 0))) (so_far n (omega arith))
+        ∙ ap (step (state_after start step due text n)) (filled (get_or text n 0) (fits n))
 
 -- the starts whose occurrences end within the bytes read are marked
 module _ (p : ℕ → Bool) (m : ℕ) where
@@ -64,25 +59,27 @@ module _ (p : ℕ → Bool) (m : ℕ) where
       both false = refl
 
 -- A forward matcher has read n bytes of the text: its state, and the word of the starts that it has marked.
-abbrev pub Read : ℕ → (ℕ → ℕ → ℕ) → (ℕ → ℕ) → Term → List ℕ → ℕ → ℕ → ℕ → ℕ → Type 0
-Read start step row t text m n state word = (state ≡ state_after start step row text n) × (word ≡ marked_below (occurs t text) (n + 1 - m))
+pub record Read {S W : Type 0} (start : S) (step : S → W → S) (words : ℕ → W) (t : Term) (text : List ℕ) (n : ℕ) (state : S) (word : ℕ) : Type 0 where
+  pub state_is : state ≡ state_after start step words text n
+  pub word_is : word ≡ marked_below (occurs t text) (n + 1 - length t.bytes)
 
-module _ (start : ℕ) (step : ℕ → ℕ → ℕ) (row : ℕ → ℕ) (t : Term) (text : List ℕ) (m : ℕ) (is : m ≡ length t.bytes) (some : 0 < m) where
-  pub read_none : Read start step row t text m 0 start 0
-  read_none =
-      let none : 0 ≡ 0 + 1 - m = omega arith in
-      (refl, marked-none (occurs t text) ∙ ap (marked_below (occurs t text)) none)
+module _ {S W : Type 0} (start : S) (step : S → W → S) (words : ℕ → W) (t : Term) (text : List ℕ) where
+  pub read_none : 0 < length t.bytes → Read start step words t text 0 start 0
+  read_none some =
+      let none : 0 ≡ 0 + 1 - length t.bytes = omega arith in
+      record { state_is = refl; word_is = marked-none (occurs t text) ∙ ap (marked_below (occurs t text)) none }
 
   -- the test of a state says whether an occurrence ends there
-  pub read_more : (table : List ℕ) (test : ℕ → Bool) (n state word more marked : ℕ) → Rows table row →
-      ((k : ℕ) → k ≤ length text → test (state_after start step row text k) ≡ ends_at t text m k) →
-      n < length text → n < 63 + m → get_or text n 0 < 256 →
-      more ≡ step state (get_or table (get_or text n 0) 0) → marked ≡ marked_at word (test more) (n + 1) m →
-      Read start step row t text m n state word → Read start step row t text m (n + 1) more marked
-  read_more table test n state word more marked rows ends within few b e w h =
-      let now = state-more start step row table text n state more rows b e h.0 in
-      (now, w ∙ mark-more (occurs t text) m n word (test more) few h.1 (ap test now ∙ ends (n + 1) (omega arith)))
+  pub read_more : (test : S → Bool) (n marked : ℕ) (state more : S) (word : ℕ) (w : W) → ((k : ℕ) → k ≤ length text → test (state_after start step words text k) ≡ ends_at t text (length t.bytes) k) →
+      n < length text → n < 63 + length t.bytes → w ≡ words (get_or text n 0) → more ≡ step state w → marked ≡ marked_at word (test more) (n + 1) (length t.bytes) →
+      Read start step words t text n state word → Read start step words t text (n + 1) more marked
+  read_more test n marked state more word w ends within few b e is h =
+      let now = state-more start step words text n state more w b e h.state_is in
+      record {
+        state_is = now;
+        word_is = is ∙ mark-more (occurs t text) (length t.bytes) n word (test more) few h.word_is (ap test now ∙ ends (n + 1) (omega arith));
+      }
 
   -- all that the stretch can hold
-  pub read_all : (n state word : ℕ) → min (length text) (63 + m) ≤ n → Read start step row t text m n state word → word ≡ scanned t text
-  read_all n state word all h = h.1 ∙ marked_all (occurs t text) (n + 1 - m) (λ s below past. occurs-past t text s (omega arith))
+  pub read_all : (n word : ℕ) (state : S) → min (length text) (63 + length t.bytes) ≤ n → Read start step words t text n state word → word ≡ scanned t text
+  read_all n word state all h = h.word_is ∙ marked_all (occurs t text) (n + 1 - length t.bytes) (λ s below past. occurs-past t text s (omega arith))

@@ -1,4 +1,6 @@
 pub mod Marks
 pub mod ShiftOrs
+pub mod Shiftings
 pub mod ShiftAnds
 pub mod Examples
+pub mod Filled

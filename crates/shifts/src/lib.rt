@@ -2,9 +2,9 @@
 #![tactic(auto)]
 
 pub mod examples;
+mod forward;
 pub mod shift_and;
-pub mod shift_and_matcher;
 pub mod shift_or;
-pub mod shift_or_matcher;
+mod shifting;
 mod starts;
 mod tables;

@@ -1,14 +1,74 @@
 // Shift-And: a matcher of 32-bit words in which a set bit is a match.
-ghost use Rattle.std.specs.Prelude.{◌≤◌, length};
-ghost use Rattle.matchers.specs.Places.{Rows, and_row, held_places};
+ghost use Rattle.std.specs.Prelude.{◌-◌, ◌/◌, ◌^◌, bit_and, nat_eq, slice_index};
+ghost use Rattle.std.specs.Coded.{coded_ℕ};
+ghost use Rattle.matchers.specs.Places.{and_row, and_step};
+ghost use Rattle.shifts.specs.ShiftAnds.{short_fits, short-fitting, and-forward};
 
+use super::forward::Forward;
+use super::shifting::Shifting;
+use super::tables::set_table;
 use rules::held::HeldTerm;
 
-// The term it was prepared for, if any, and the word of each byte: bit i is set exactly where the byte matches the term's byte i.
+// The word of each byte: bit i is set exactly where the byte matches the term's byte i.
 #[derive(Drop)]
-pub struct ShiftAnd {
-    pub(super) table: [u32; 256],
-    pub(super) term: Option<HeldTerm>,
-    ghost rows: { Rows table (and_row (held_places term)) },
-    ghost short: { length (held_places term).bytes ≤ 32 },
+pub struct AndTable {
+    words: [u32; 256],
+}
+
+// The matcher over such a table.
+pub type ShiftAnd = Shifting<AndTable>;
+
+impl Forward for AndTable {
+    type Word = u32;
+
+    ghost word_code = { coded_ℕ };
+
+    ghost fit = { short_fits };
+
+    ghost words = { λ table b. slice_index table.words b };
+
+    ghost words_of = { and_row };
+
+    ghost start = { 0 };
+
+    ghost step = { and_step };
+
+    ghost last = { λ m state. nat_eq (bit_and (state / 2 ^ (m - 1)) 1) 1 };
+
+    ghost fitting = { short-fitting };
+
+    ghost forward = { and-forward };
+
+    fn fits(m: usize, k: usize) -> bool {
+        (1..=32).contains(&m) && k < m
+    }
+
+    fn empty() -> AndTable {
+        AndTable { words: [0; 256] }
+    }
+
+    fn of(term: &HeldTerm) -> Option<AndTable> {
+        if term.bytes().len() > 32 {
+            return None;
+        }
+        Some(AndTable {
+            words: set_table(term.bytes(), term.limit()),
+        })
+    }
+
+    fn word(&self, b: u8) -> u32 {
+        self.words[b as usize]
+    }
+
+    fn start() -> u32 {
+        0
+    }
+
+    fn step(state: u32, word: u32) -> u32 {
+        ((state << 1) | 1) & word
+    }
+
+    fn ends(state: u32, term: &HeldTerm) -> bool {
+        (u64::from(state) >> (term.bytes().len() - 1)) & 1 == 1
+    }
 }

@@ -6,8 +6,8 @@ ghost use Rattle.matchers.specs.Places.{Rows, and_row};
 use rules::bytes::fold;
 
 // Sets bit `i` of the word of each byte that has the fold of `p`.
-fn set_folded(table: &mut [u32], i: usize, p: u8)
-    requires { (i < 32) × (length table.old ≡ 256) }
+fn set_folded(table: &mut [u32; 256], i: usize, p: u8)
+    requires { i < 32 }
     ensures rows { (b : ℕ) → b < 256 → slice_index table.new b ≡ (if nat_eq (folded b) (folded p) then bit_or (slice_index table.old b) (1 * 2 ^ i % 2 ^ 32) else slice_index table.old b) }
 {
     let sought = fold(p);

@@ -1,14 +1,14 @@
 -- From a window's state to the starts that it settles, and from centre to centre. Assumes nothing.
-use Rattle.std.proofs.Common.{◌≡◌, ℕ, ◌+◌, ◌-◌, ◌*◌, ◌/◌, ◌%◌, ◌^◌, ◌<◌, ◌≤◌, Bool, true, false, not, ◌&&◌, ◌||◌, eqb, ltb, leb, ◌⊎◌, List, length, sym, ap, ◌∙◌, subst, ⊎_elim, arith}
+use Rattle.std.proofs.Common.{◌≡◌, ℕ, ◌+◌, ◌-◌, ◌*◌, ◌/◌, ◌%◌, ◌^◌, ◌<◌, ◌≤◌, Bool, true, false, not, ◌&&◌, ◌||◌, eqb, ltb, leb, ◌⊎◌, List, length, min, refl, inl, inr, sym, ap, ◌∙◌, subst, ⊎_elim, arith}
 use mathlib.Core.Bool.{not-not}
 use lib.Bits.{bit_and, bit_or, and_mask}
 use Rattle.std.proofs.lemmas.Bool.Decides.{nat_tests}
-use Rattle.std.proofs.lemmas.Bool.{cases_lt, cases_eq, cases_Bool, le-leb, and_parts, eq-eqb, ne_eqb}
+use Rattle.std.proofs.lemmas.Bool.{cases_lt, cases_eq, cases_Bool, le-leb, and_parts, eq-eqb, ne_eqb, eqb-true}
 use Rattle.rules.specs.Words.{word_of, bit}
 use Rattle.rules.specs.Terms.{Term, occurs, scanned}
 use Rattle.rules.proofs.Words.{word_and, word_same, word-inj, word_set, word-of-bits, bit_is}
 use Rattle.rules.proofs.Occurs.{occurs-ends}
-use Rattle.windows.specs.Windows.{low_bit, full_word, window_state, window_marked}
+use Rattle.windows.specs.Windows.{low_bit, full_word, is_full, window_state, window_marked}
 use Rattle.matchers.proofs.Marking.{marked_below}
 use Rattle.windows.proofs.TwoWay.{fit_at, spread, spread-stays, window-occurs, window-spreads}
 
@@ -77,6 +77,23 @@ decided-all t text m c z e h lc =
     (λ (y : occurs t text s ≡ true). let f = occurs-ends t text s y in grind (arith, nat_tests, h, e))
     (λ (y : occurs t text s ≡ false). grind (arith, nat_tests))
     (cases_Bool (occurs t text s)))
+
+-- past the last centre
+pub decided-end : (t : Term) (text : List ℕ) (c : ℕ) → 0 < length t.bytes → min (length text) (63 + length t.bytes) ≤ c → length t.bytes ≤ c + 1 →
+    marked_below (occurs t text) (c + 1 - length t.bytes) ≡ scanned t text
+decided-end t text c some end lc =
+    decided-all t text (length t.bytes) c some refl (⊎_elim (λ (l : c < length text). inr (omega arith)) (λ (l : length text ≤ c). inl l) (cases_lt c (length text))) lc
+
+-- a window whose steps are at their end, or that was left before
+pub decided-window : (t : Term) (text : List ℕ) (c j word state marked : ℕ) → 0 < length t.bytes → length t.bytes ≤ 64 → length t.bytes ≤ c + 1 → j ≤ length t.bytes →
+    state ≡ window_state t text c (j - 1) → (length t.bytes ≤ j) ⊎ (is_full t state ≡ true) → word ≡ marked_below (occurs t text) (c + 1 - length t.bytes) →
+    marked ≡ window_marked word state (length t.bytes) c (length t.bytes) → marked ≡ marked_below (occurs t text) (c + 1)
+decided-window t text c j word state marked some few lc lj is ends w e =
+    let m = length t.bytes in
+    e ∙ decided-more t text m c state some few refl lc word w
+    (⊎_elim
+    (λ (l : m ≤ j). settled-end t text m c state some few refl lc (let last : j - 1 ≡ m - 1 = omega arith in is ∙ ap (window_state t text c) last))
+    (λ (full : is_full t state ≡ true). settled-full t text m c state some few refl lc (j - 1) (omega arith) is (eqb-true _ _ full)) ends)
 
 -- the loop over the bits of a window
 pub window-none : (word state m c : ℕ) → word < 2 ^ 64 → word ≡ window_marked word state m c 0

@@ -1,3 +1,4 @@
 pub mod TwoWay
 pub mod Centres
 pub mod Steps
+pub mod Kept

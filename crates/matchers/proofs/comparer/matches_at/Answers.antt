@@ -1,41 +1,22 @@
-use Rattle.std.proofs.Common.{◌≡◌, ◌+◌, true, false, length, get_or, sym, ap, ◌∙◌, arith}
-use Rattle.std.proofs.lemmas.Bool.{and_from, and_right}
+use Rattle.std.proofs.Common.{◌≡◌, ◌-◌, length, take, drop, ◌∙◌, arith, length-drop, rules}
+use borrow.Author.Tests.{tests}
+use Rattle.std.proofs.lemmas.List.{take_all}
+use Rattle.std.proofs.lemmas.Iterator.{YieldsList-from_slice, YieldsList-from_zip}
+use Rattle.std.proofs.lemmas.Iterator.Consumers.{YieldsList-from_enumerate, YieldsList-at}
+use Rattle.std.proofs.lemmas.Iterator.Search.{all_from_yields_List}
 use Rattle.rules.specs.Held.{term_of}
-use Rattle.rules.specs.Terms.{front, byte_matches}
-use Rattle.rules.proofs.Occurs.{front-none, front-more, front-fails}
+use Rattle.rules.specs.Terms.{same_byte}
+use Rattle.matchers.proofs.Comparing.{front-pairs}
 use Rattle.matchers.proofs.comparer.matches_at.Goals as goal
-
-pub loop-i-init : goal.loop-i-init
-loop-i-init c = front-none _ _ _
-
-pub loop-i-preserved : goal.loop-i-preserved
-loop-i-preserved c =
-    let t = term_of c.args.term.now in
-    let text = c.args.stretch.now in
-    let s = c.args.s in
-    let i = c.loop-i.i in
-    let b = c.bytes-bytes.ensures.value in
-    let k = c.limit-limit.ensures.value in
-    let v = c.if-not-byte_matches.ensures.value in
-    let same : byte_matches t i (get_or text (s + i) 0) ≡ true = cc in
-    front-more t text s i ∙ and_from (front t text s i) _ c.loop-i.invariant same
-
-pub returns-then-not-byte_matches : goal.returns-then-not-byte_matches
-returns-then-not-byte_matches c =
-    let t = term_of c.args.term.now in
-    let text = c.args.stretch.now in
-    let s = c.args.s in
-    let i = c.loop-i.i in
-    let b = c.bytes-bytes.ensures.value in
-    let k = c.limit-limit.ensures.value in
-    let v = c.if-not-byte_matches.ensures.value in
-    let other : byte_matches t i (get_or text (s + i) 0) ≡ false = cc in
-    let m : length c.bytes-bytes.result.now ≡ length t.bytes = ap length b in
-    sym (front-fails t text s (i + 1) (length t.bytes) (omega arith) (front-more t text s i ∙ and_right (front t text s i) _ other))
 
 pub returns : goal.returns
 returns c =
     let t = term_of c.args.term.now in
-    let m : length c.bytes-bytes.result.now ≡ length t.bytes = ap length c.bytes-bytes.ensures.value in
-    let all : c.loop-i.i ≡ length t.bytes = omega arith in
-    sym (ap (λ n. front t c.args.stretch.now c.args.s n) (sym all) ∙ c.loop-i.invariant)
+    let text = c.args.stretch.now in
+    let s = c.args.s in
+    let behind : take (length text - s) (drop s text) ≡ drop s text = take_all (length text - s) (drop s text) (omega (arith, length-drop s text)) in
+    all_from_yields_List (λ p. same_byte t.limit p.0 p.1.0 p.1.1) c.all.new.self _ c.all.result c.all.ensures.ran
+    (YieldsList-from_enumerate
+    (YieldsList-at c.enumerate.ensures.source
+    (YieldsList-from_zip (YieldsList-at c.zip.ensures.first (YieldsList-from_slice t.bytes cc)) (YieldsList-from_slice (drop s text) cc))) cc) (λ x b q k. search (rules, tests))
+    ∙ front-pairs t c.args.stretch.now c.args.s c.requires

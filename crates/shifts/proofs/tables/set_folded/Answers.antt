@@ -1,9 +1,9 @@
-use Rattle.std.proofs.Common.{◌≡◌, ℕ, ◌*◌, ◌%◌, ◌^◌, Bool, true, false, eqb, List, get_or, sym, ap, ◌∙◌, arith}
+use Rattle.std.proofs.Common.{◌≡◌, ℕ, ◌*◌, ◌%◌, ◌^◌, Bool, true, false, eqb, List, length, get_or, sym, ap, ◌∙◌, arith, length-set}
 use lib.Bits.{bit_or}
 use Rattle.std.proofs.lemmas.List.{set-get_or}
 use Rattle.std.proofs.lemmas.Bool.{eq-eqb, ne_eqb}
 use Rattle.rules.specs.Terms.{folded}
-use Rattle.matchers.proofs.Filling.{fill-hit, fill-miss, fill-all}
+use Rattle.matchers.proofs.Filling.{fill-hit, fill-miss}
 use Rattle.shifts.proofs.tables.set_folded.Goals as goal
 use Rattle.shifts.proofs.tables.set_folded.Goals.{then-fold-sought, else-fold-sought}
 
@@ -20,14 +20,8 @@ loop-b-preserved c =
     elim c.if-fold-sought.branch [
       | then-fold-sought w ↦
           let yes : eqb (folded b) (folded p) ≡ true = eq-eqb (folded b) (folded p) (sym mine ∙ w.if-fold-sought.true ∙ other) in
-          (omega arith, λ k l. ap (λ (xs : List ℕ). get_or xs k 0) w.table-is ∙ fill-hit start table hit F b c.loop-b.invariant.1 (omega arith) (omega arith) yes k l)
+          (ap length w.table-is ∙ length-set table b _ ∙ c.loop-b.invariant.0, λ k l. ap (λ (xs : List ℕ). get_or xs k 0) w.table-is ∙ fill-hit start table hit F b c.loop-b.invariant.1 (omega arith) (omega arith) yes k l)
       | else-fold-sought w ↦
           let no : eqb (folded b) (folded p) ≡ false = ne_eqb (folded b) (folded p) (λ e. w.if-fold-sought.false (mine ∙ e ∙ sym other)) in
-          (omega arith, λ k l. ap (λ (xs : List ℕ). get_or xs k 0) (w.table-is ∙ set-get_or table b 0) ∙ fill-miss start table hit F b c.loop-b.invariant.1 no k l)
+          (ap length (w.table-is ∙ set-get_or table b 0) ∙ c.loop-b.invariant.0, λ k l. ap (λ (xs : List ℕ). get_or xs k 0) (w.table-is ∙ set-get_or table b 0) ∙ fill-miss start table hit F b c.loop-b.invariant.1 no k l)
     ]
-
-pub returns : goal.returns
-returns c = record {
-  rows =
-      fill-all c.args.table.now c.loop-b.table (λ x. eqb (folded x) (folded c.args.p)) (λ x. bit_or x (1 * 2 ^ c.args.i % 2 ^ 32)) c.loop-b.b c.loop-b.invariant.1 (omega arith);
-}

@@ -23,7 +23,7 @@ loop-i-preserved c =
     elim c.if-i-k.branch [
       | then-i-k w ↦
           let more = w.set_folded.new.table in (
-            ap length w.table-is ∙ w.set_folded.auto.table ∙ c.loop-i.invariant.0,
+            ap length w.table-is ∙ w.set_folded.array_long,
             subst (λ (xs : List ℕ). Rows xs (λ b. word_of (λ j. ltb j (i + 1) && hits t j b) 32)) (sym w.table-is)
                 (rows_more V (set_same 32) mark t i (set-marks i few) table more
                 (λ b l. w.set_folded.ensures.rows b l ∙ ap (λ h. cond h (mark (get_or table b 0)) (get_or table b 0)) (sym (hits-folded t i b (omega arith) w.if-i-k.true)))

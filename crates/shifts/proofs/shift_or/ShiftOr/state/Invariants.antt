@@ -1,6 +1,0 @@
-use Rattle.std.proofs.Common.{◌≡◌}
-use Rattle.matchers.specs.Places.{held_places, or_state}
-use Rattle.shifts.proofs.shift_or.ShiftOr.state.Given as goal
-
-abbrev pub invariant-loop-b : goal.invariant-loop-b
-invariant-loop-b l = l.state ≡ or_state (held_places l.self.term) l.read l.b-index
