@@ -3,7 +3,11 @@ use Rattle.std.proofs.Common.{◌≡◌, ℕ, zero, suc, ◌+◌, ◌-◌, ◌<�
 use Rattle.std.specs.declared.slice.Windows.{Windows}
 use Rattle.std.specs.Slice.Iter.{windows_rest, windows_size, windows_steps}
 use Rattle.std.proofs.lemmas.Bool.{le-leb, lt-leb, cases_lt}
-use Rattle.std.proofs.lemmas.Iterator.{YieldsList}
+use Rattle.std.specs.declared.iter.Enumerate.{Enumerate}
+use Rattle.std.specs.declared.iter.Take.{Take}
+use Rattle.std.specs.Iterator.Adapters.{enumerate_source, enumerate_count, enumerate_steps, take_source, take_count, take_steps}
+use Rattle.std.proofs.lemmas.Iterator.{YieldsList, YieldsList-from_take}
+use Rattle.std.proofs.lemmas.Iterator.Consumers.{YieldsList-at, YieldsList-from_enumerate}
 use Rattle.std.proofs.lemmas.Iterator.Splits.{YieldsList-from_shown_while}
 use Rattle.std.proofs.lemmas.List.FromFn.{length-enumerate_from, get_or-enumerate_from}
 use Rattle.std.specs.List.{list_all, enumerate_from, zip}
@@ -113,3 +117,12 @@ placed-window t text i p b some h e =
 
 pub placed-windows : (m : ℕ) (text : List ℕ) → 0 < m → length (take 64 (enumerate_from 0 (window_list m text))) ≡ min 64 (length text + 1 - m)
 placed-windows m text some = length-take 64 (enumerate_from 0 (window_list m text)) ∙ ap (min 64) (length-enumerate_from 0 (window_list m text) ∙ window_list-length m text some)
+
+-- the loop over them
+module _
+    (m : ℕ) (text : List ℕ) (w : Windows ℕ) (e : Enumerate (Windows ℕ)) (k s : Take (Enumerate (Windows ℕ)))
+    (some : 0 < m) (rest : windows_rest w ≡ text) (size : windows_size w ≡ m)
+    (source : enumerate_source e ≡ w) (count : enumerate_count e ≡ 0) (taken : take_source k ≡ e) (most : take_count k ≡ 64) (is : s ≡ k)
+  where
+    pub windows-road : YieldsList {B = ℕ × List ℕ} (take_steps (enumerate_steps windows_steps)) (λ p. (p.0, p.1.now)) s (take 64 (enumerate_from 0 (window_list m text)))
+    windows-road = YieldsList-at is (YieldsList-from_take 64 (YieldsList-at taken (YieldsList-from_enumerate (YieldsList-at source (YieldsList-from_windows m text w some rest size)) count)) most)

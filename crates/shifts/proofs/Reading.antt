@@ -2,6 +2,13 @@
 use Rattle.std.proofs.Common.{◌≡◌, ℕ, zero, suc, ◌+◌, ◌-◌, ◌*◌, ◌%◌, ◌^◌, ◌<◌, ◌≤◌, min, Bool, true, false, cond, ◌&&◌, leb, List, length, take, get_or, sym, refl, ap, ◌∙◌, ⊎_elim, add-one, arith, length-take}
 use lib.Bits.{bit_or}
 use Rattle.std.specs.List.{enumerate_from, fold}
+use Rattle.std.specs.declared.slice.Iter.{Iter}
+use Rattle.std.specs.Slice.Iter.{iter_rest, iter_steps}
+use Rattle.std.specs.declared.iter.Enumerate.{Enumerate}
+use Rattle.std.specs.declared.iter.Take.{Take}
+use Rattle.std.specs.Iterator.Adapters.{enumerate_source, enumerate_count, enumerate_steps, take_source, take_count, take_steps}
+use Rattle.std.proofs.lemmas.Iterator.{YieldsList, YieldsList-from_slice, YieldsList-from_take}
+use Rattle.std.proofs.lemmas.Iterator.Consumers.{YieldsList-at, YieldsList-from_enumerate}
 use Rattle.std.proofs.lemmas.List.FromFn.{length-enumerate_from, get_or-enumerate_from}
 use Rattle.std.proofs.lemmas.List.{take_all, take_more, get_or-take, get_or_default}
 use Rattle.std.proofs.lemmas.List.Sums.{fold_push}
@@ -99,3 +106,11 @@ placed text k i p h =
 
 pub placed-count : (text : List ℕ) (k : ℕ) → length (take k (enumerate_from 0 text)) ≡ min k (length text)
 placed-count text k = length-take k (enumerate_from 0 text) ∙ ap (min k) (length-enumerate_from 0 text)
+
+-- the loop over them
+module _
+    (text : List ℕ) (many : ℕ) (b : Iter ℕ) (e : Enumerate (Iter ℕ)) (k s : Take (Enumerate (Iter ℕ)))
+    (rest : iter_rest b ≡ text) (source : enumerate_source e ≡ b) (count : enumerate_count e ≡ 0) (taken : take_source k ≡ e) (most : take_count k ≡ many) (is : s ≡ k)
+  where
+    pub bytes-road : YieldsList {B = ℕ × ℕ} (take_steps (enumerate_steps iter_steps)) (λ p. (p.0, p.1.now)) s (take many (enumerate_from 0 text))
+    bytes-road = YieldsList-at is (YieldsList-from_take many (YieldsList-at taken (YieldsList-from_enumerate (YieldsList-at source (YieldsList-from_slice text rest)) count)) most)

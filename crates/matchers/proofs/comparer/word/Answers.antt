@@ -1,12 +1,11 @@
 use Rattle.std.proofs.Common.{◌≡◌, ◌+◌, ◌*◌, ◌%◌, ◌^◌, ◌<◌, [], ◌∷◌, ◌++◌, length, sym, ap, ◌∙◌, arith, length-append}
 use lib.Bits.{bit_or}
-use Rattle.std.proofs.lemmas.Iterator.{YieldsList-from_take}
-use Rattle.std.proofs.lemmas.Iterator.Consumers.{YieldsList-at, YieldsList-from_enumerate, YieldsList-turn, YieldsList-end}
+use Rattle.std.proofs.lemmas.Iterator.Consumers.{YieldsList-turn, YieldsList-end}
 use Rattle.rules.specs.Held.{term_of}
 use Rattle.rules.specs.Terms.{occurs}
 use Rattle.rules.proofs.Helds.{held-length}
 use Rattle.rules.proofs.Occurs.{occurs-past}
-use Rattle.matchers.proofs.Comparing.{YieldsList-from_windows, placed-window, placed-windows}
+use Rattle.matchers.proofs.Comparing.{placed-window, placed-windows, windows-road}
 use Rattle.matchers.proofs.Marking.{marked_below, marked-none, marked_more, marked_other, marked_all}
 use Rattle.matchers.proofs.comparer.word.Goals as goal
 
@@ -19,13 +18,8 @@ loop-s-preserved-then-matches c =
     let text = c.args.stretch.now in
     let long = held-length c.args.term.now in
     let some : 0 < length t.bytes = omega (arith, c.args.term.now.limited) in
-    let road = YieldsList-at c.into_iter-s-iterator.ensures.into_iter_gives
-    (YieldsList-from_take 64
-    (YieldsList-at c.take-s-items.ensures.source
-    (YieldsList-from_enumerate
-    (YieldsList-at c.enumerate.ensures.source (YieldsList-from_windows (length t.bytes) text c.windows.result some c.windows.ensures.rest (c.windows.ensures.size ∙ ap length c.bytes.ensures.value)))
-    c.enumerate.ensures.count))
-    c.take-s-items.ensures.count) in
+    let road = windows-road (length t.bytes) text c.windows.result c.enumerate.result c.take-s-items.result c.into_iter-s-iterator.result some c.windows.ensures.rest
+    (c.windows.ensures.size ∙ ap length c.bytes.ensures.value) c.enumerate.ensures.source c.enumerate.ensures.count c.take-s-items.ensures.source c.take-s-items.ensures.count c.into_iter-s-iterator.ensures.into_iter_gives in
     let n = length c.loop-s.yielded in
     let here = placed-window t text n (c.in-Some.s, c.in-Some.window.now) c.matches.result some
     (YieldsList-turn road c.loop-s.yielded c.loop-s.s-iterator c.loop-s.yielded_by c.next.result c.next.new.self (c.in-Some.s, c.in-Some.window) c.in-Some.is c.next.ensures.steps) c.matches.ensures in
@@ -39,13 +33,8 @@ loop-s-preserved c =
     let text = c.args.stretch.now in
     let long = held-length c.args.term.now in
     let some : 0 < length t.bytes = omega (arith, c.args.term.now.limited) in
-    let road = YieldsList-at c.into_iter-s-iterator.ensures.into_iter_gives
-    (YieldsList-from_take 64
-    (YieldsList-at c.take-s-items.ensures.source
-    (YieldsList-from_enumerate
-    (YieldsList-at c.enumerate.ensures.source (YieldsList-from_windows (length t.bytes) text c.windows.result some c.windows.ensures.rest (c.windows.ensures.size ∙ ap length c.bytes.ensures.value)))
-    c.enumerate.ensures.count))
-    c.take-s-items.ensures.count) in
+    let road = windows-road (length t.bytes) text c.windows.result c.enumerate.result c.take-s-items.result c.into_iter-s-iterator.result some c.windows.ensures.rest
+    (c.windows.ensures.size ∙ ap length c.bytes.ensures.value) c.enumerate.ensures.source c.enumerate.ensures.count c.take-s-items.ensures.source c.take-s-items.ensures.count c.into_iter-s-iterator.ensures.into_iter_gives in
     let n = length c.loop-s.yielded in
     let here = placed-window t text n (c.in-Some.s, c.in-Some.window.now) c.matches.result some
     (YieldsList-turn road c.loop-s.yielded c.loop-s.s-iterator c.loop-s.yielded_by c.next.result c.next.new.self (c.in-Some.s, c.in-Some.window) c.in-Some.is c.next.ensures.steps) c.matches.ensures in
@@ -58,13 +47,8 @@ returns c =
     let text = c.args.stretch.now in
     let long = held-length c.args.term.now in
     let some : 0 < length t.bytes = omega (arith, c.args.term.now.limited) in
-    let road = YieldsList-at c.into_iter-s-iterator.ensures.into_iter_gives
-    (YieldsList-from_take 64
-    (YieldsList-at c.take-s-items.ensures.source
-    (YieldsList-from_enumerate
-    (YieldsList-at c.enumerate.ensures.source (YieldsList-from_windows (length t.bytes) text c.windows.result some c.windows.ensures.rest (c.windows.ensures.size ∙ ap length c.bytes.ensures.value)))
-    c.enumerate.ensures.count))
-    c.take-s-items.ensures.count) in
+    let road = windows-road (length t.bytes) text c.windows.result c.enumerate.result c.take-s-items.result c.into_iter-s-iterator.result some c.windows.ensures.rest
+    (c.windows.ensures.size ∙ ap length c.bytes.ensures.value) c.enumerate.ensures.source c.enumerate.ensures.count c.take-s-items.ensures.source c.take-s-items.ensures.count c.into_iter-s-iterator.ensures.into_iter_gives in
     let all = (YieldsList-end road c.loop-s.yielded c.loop-s.s-iterator c.loop-s.yielded_by c.next.result c.next.new.self c.in-None.is c.next.ensures.steps).1 in
     let many = placed-windows (length t.bytes) text some in
     c.loop-s.invariant ∙ marked_all (occurs t text) (length c.loop-s.yielded) (λ s below past. occurs-past t text s (omega (arith, all, many)))

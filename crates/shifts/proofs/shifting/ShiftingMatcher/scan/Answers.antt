@@ -1,13 +1,12 @@
 use Rattle.std.proofs.Common.{◌≡◌, ℕ, ◌+◌, [], ◌∷◌, ◌++◌, length, get_or, sym, ap, ◌∙◌, subst, arith, length-append, rules}
-use Rattle.std.proofs.lemmas.Iterator.{YieldsList-from_slice, YieldsList-from_take}
-use Rattle.std.proofs.lemmas.Iterator.Consumers.{YieldsList-at, YieldsList-from_enumerate, YieldsList-turn, YieldsList-end}
+use Rattle.std.proofs.lemmas.Iterator.Consumers.{YieldsList-turn, YieldsList-end}
 use Rattle.rules.specs.Held.{term_of}
 use Rattle.rules.specs.Terms.{scanned}
 use Rattle.rules.proofs.Helds.{held-length}
 use Rattle.matchers.specs.Places.{held_places}
 use Rattle.matchers.proofs.Scans.{lent_held, lent_answer}
 use Rattle.shifts.specs.Marks.{marked_at}
-use Rattle.shifts.proofs.Reading.{Read, read_none, read_more, read_all, placed, placed-count}
+use Rattle.shifts.proofs.Reading.{Read, read_none, read_more, read_all, placed, placed-count, bytes-road}
 use Rattle.shifts.proofs.shifting.ShiftingMatcher.scan.Goals as goal
 
 pub loop-n-init : goal.loop-n-init
@@ -32,10 +31,8 @@ loop-n-preserved g c =
     let held = lent_held s.term h text c.in_ok-term.ensures.value in
     let fit = s.fits h held in
     let m = ap length c.bytes-m.ensures.value in
-    let road = YieldsList-at c.into_iter-n-iterator.ensures.into_iter_gives
-    (YieldsList-from_take (63 + length c.bytes-m.result.now)
-    (YieldsList-at c.take-n-items.ensures.source (YieldsList-from_enumerate (YieldsList-at c.enumerate.ensures.source (YieldsList-from_slice text c.iter.ensures.rest)) c.enumerate.ensures.count))
-    c.take-n-items.ensures.count) in
+    let road = bytes-road text (63 + length c.bytes-m.result.now) c.iter.result c.enumerate.result c.take-n-items.result c.into_iter-n-iterator.result
+    c.iter.ensures.rest c.enumerate.ensures.source c.enumerate.ensures.count c.take-n-items.ensures.source c.take-n-items.ensures.count c.into_iter-n-iterator.ensures.into_iter_gives in
     let here = placed text (63 + length c.bytes-m.result.now) n (c.in-Some.n, c.in-Some.b.now)
     (YieldsList-turn road c.loop-n.yielded c.loop-n.n-iterator c.loop-n.yielded_by c.next.result c.next.new.self (c.in-Some.n, c.in-Some.b) c.in-Some.is c.next.ensures.steps) in
     let next : n + 1 ≡ length (c.loop-n.yielded ++ ((c.in-Some.n, c.in-Some.b) ∷ [])) = sym (length-append c.loop-n.yielded _) in
@@ -55,10 +52,8 @@ returns g c =
     let h = c.in_ok-term.term.now in
     let t = term_of h in
     let text = c.args.stretch.now in
-    let road = YieldsList-at c.into_iter-n-iterator.ensures.into_iter_gives
-    (YieldsList-from_take (63 + length c.bytes-m.result.now)
-    (YieldsList-at c.take-n-items.ensures.source (YieldsList-from_enumerate (YieldsList-at c.enumerate.ensures.source (YieldsList-from_slice text c.iter.ensures.rest)) c.enumerate.ensures.count))
-    c.take-n-items.ensures.count) in
+    let road = bytes-road text (63 + length c.bytes-m.result.now) c.iter.result c.enumerate.result c.take-n-items.result c.into_iter-n-iterator.result
+    c.iter.ensures.rest c.enumerate.ensures.source c.enumerate.ensures.count c.take-n-items.ensures.source c.take-n-items.ensures.count c.into_iter-n-iterator.ensures.into_iter_gives in
     let all = (YieldsList-end road c.loop-n.yielded c.loop-n.n-iterator c.loop-n.yielded_by c.next.result c.next.new.self c.in-None.is c.next.ensures.steps).1 in
     let many = placed-count text (63 + length c.bytes-m.result.now) in
     record {
