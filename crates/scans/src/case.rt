@@ -5,7 +5,7 @@ use std::fmt;
 
 // The texts: repeats, a period of two, few letters, all byte values, words in both cases.
 #[derive(Clone, Copy)]
-pub enum Kind {
+pub(super) enum Kind {
     Repeats,
     Period,
     Letters,
@@ -15,11 +15,11 @@ pub enum Kind {
 
 // A term of `m` bytes with the limit `k`, in a stretch of `l` bytes.
 #[derive(Clone, Copy)]
-pub struct Case {
-    pub kind: Kind,
-    pub m: usize,
-    pub k: usize,
-    pub l: usize,
+pub(super) struct Case {
+    pub(super) kind: Kind,
+    pub(super) m: usize,
+    pub(super) k: usize,
+    pub(super) l: usize,
 }
 
 // A number from a place, spread over its bits.
@@ -29,7 +29,7 @@ fn mixed(i: usize) -> usize {
 
 impl Kind {
     // Every kind, in order.
-    pub const ALL: [Kind; 5] = [
+    pub(super) const ALL: [Kind; 5] = [
         Kind::Repeats,
         Kind::Period,
         Kind::Letters,
@@ -70,12 +70,12 @@ impl Kind {
 
 impl Case {
     // The term's bytes, as many as can be asked for.
-    pub fn term(self) -> [u8; 65] {
+    pub(super) fn term(self) -> [u8; 65] {
         std::array::from_fn(|i| self.kind.byte((i & 0xff) + self.kind.term_start(), self.m))
     }
 
     // The stretch's bytes, as many as can be asked for.
-    pub fn stretch(self) -> [u8; 128] {
+    pub(super) fn stretch(self) -> [u8; 128] {
         std::array::from_fn(|i| self.kind.byte(i, self.m))
     }
 }

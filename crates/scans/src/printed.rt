@@ -4,7 +4,7 @@ use std::fmt;
 
 // A word, none, or a refusal as 'r' and its number.
 #[derive(Clone, Copy)]
-pub struct Printed(pub Result<Option<u64>, Refusal>);
+pub(super) struct Printed(pub(super) Result<Option<u64>, Refusal>);
 
 impl From<Result<u64, Refusal>> for Printed {
     fn from(answer: Result<u64, Refusal>) -> Printed {

@@ -1,8 +1,16 @@
 -- A forward matcher reads on: its state, where an occurrence ends, and the starts it marks. Assumes nothing.
-use Rattle.std.proofs.Common.{◌≡◌, ℕ, zero, suc, ◌+◌, ◌-◌, ◌*◌, ◌%◌, ◌^◌, ◌<◌, ◌≤◌, min, Bool, true, false, cond, ◌&&◌, leb, List, length, take, get_or, sym, refl, ap, ◌∙◌, ⊎_elim, add-one, arith}
+use Rattle.std.proofs.Common.{◌≡◌, ℕ, zero, suc, ◌+◌, ◌-◌, ◌*◌, ◌%◌, ◌^◌, ◌<◌, ◌≤◌, min, Bool, true, false, cond, ◌&&◌, leb, List, length, take, get_or, sym, refl, ap, ◌∙◌, ⊎_elim, add-one, arith, length-take}
 use lib.Bits.{bit_or}
-use Rattle.std.specs.List.{fold}
-use Rattle.std.proofs.lemmas.List.{take_all, take_more}
+use Rattle.std.specs.List.{enumerate_from, fold}
+use Rattle.std.specs.declared.slice.Iter.{Iter}
+use Rattle.std.specs.Slice.Iter.{iter_rest, iter_steps}
+use Rattle.std.specs.declared.iter.Enumerate.{Enumerate}
+use Rattle.std.specs.declared.iter.Take.{Take}
+use Rattle.std.specs.Iterator.Adapters.{enumerate_source, enumerate_count, enumerate_steps, take_source, take_count, take_steps}
+use Rattle.std.proofs.lemmas.Iterator.{YieldsList, YieldsList-from_slice, YieldsList-from_take}
+use Rattle.std.proofs.lemmas.Iterator.Consumers.{YieldsList-at, YieldsList-from_enumerate}
+use Rattle.std.proofs.lemmas.List.FromFn.{length-enumerate_from, get_or-enumerate_from}
+use Rattle.std.proofs.lemmas.List.{take_all, take_more, get_or-take, get_or_default}
 use Rattle.std.proofs.lemmas.List.Sums.{fold_push}
 use Rattle.std.proofs.lemmas.Bool.{cases_Bool, cases_lt, le-leb, lt-leb}
 use Rattle.rules.specs.Terms.{Term, occurs, scanned}
@@ -83,3 +91,26 @@ module _ {S W : Type 0} (start : S) (step : S → W → S) (words : ℕ → W) (
   -- all that the stretch can hold
   pub read_all : (n word : ℕ) (state : S) → min (length text) (63 + length t.bytes) ≤ n → Read start step words t text n state word → word ≡ scanned t text
   read_all n word state all h = h.word_is ∙ marked_all (occurs t text) (n + 1 - length t.bytes) (λ s below past. occurs-past t text s (omega arith))
+
+-- the first k bytes of the text, each with its place: item i, and how many there are
+pub placed : (text : List ℕ) (k i : ℕ) (p : ℕ × ℕ) → (i < length (take k (enumerate_from 0 text))) × (p ≡ get_or (take k (enumerate_from 0 text)) i p) →
+    (i < length text) × ((i < k) × ((p.0 ≡ i) × (p.1 ≡ get_or text i 0)))
+placed text k i p h =
+    let counted = length-enumerate_from 0 text in
+    let short = length-take k (enumerate_from 0 text) in
+    let below : i < k = omega (arith, h.0) in
+    let within : i < length text = omega (arith, h.0) in
+    let is : p ≡ (0 + i, get_or text i p.1) = h.1 ∙ get_or-take k (enumerate_from 0 text) i p below ∙ get_or-enumerate_from 0 text i p within in
+    let at : 0 + i ≡ i = omega arith in
+    (within, (below, (ap (λ (x : ℕ × ℕ). x.0) is ∙ at, ap (λ (x : ℕ × ℕ). x.1) is ∙ get_or_default text i p.1 0 within)))
+
+pub placed-count : (text : List ℕ) (k : ℕ) → length (take k (enumerate_from 0 text)) ≡ min k (length text)
+placed-count text k = length-take k (enumerate_from 0 text) ∙ ap (min k) (length-enumerate_from 0 text)
+
+-- the loop over them
+module _
+    (text : List ℕ) (many : ℕ) (b : Iter ℕ) (e : Enumerate (Iter ℕ)) (k s : Take (Enumerate (Iter ℕ)))
+    (rest : iter_rest b ≡ text) (source : enumerate_source e ≡ b) (count : enumerate_count e ≡ 0) (taken : take_source k ≡ e) (most : take_count k ≡ many) (is : s ≡ k)
+  where
+    pub bytes-road : YieldsList {B = ℕ × ℕ} (take_steps (enumerate_steps iter_steps)) (λ p. (p.0, p.1.now)) s (take many (enumerate_from 0 text))
+    bytes-road = YieldsList-at is (YieldsList-from_take many (YieldsList-at taken (YieldsList-from_enumerate (YieldsList-at source (YieldsList-from_slice text rest)) count)) most)

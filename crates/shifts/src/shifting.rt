@@ -83,7 +83,7 @@ impl<T: Forward> Matcher for Shifting<T> {
         let m = term.bytes().len();
         let mut state = T::start();
         let mut word = 0;
-        for (n, b) in stretch[..stretch.len().min(63 + m)].iter().enumerate() {
+        for (n, b) in stretch.iter().enumerate().take(63 + m) {
             state = T::step(state, self.table.word(*b));
             word = mark(word, T::ends(state, term), n + 1, m);
         }
