@@ -51,6 +51,7 @@ fn read_named(rt: &HostRuntime, path: &str, most: u64) -> anyhow::Result<Option<
 }
 
 // Adds the locators of the number's term, by ascending start; answers whether a term stands under the number.
+// The loop asks from behind the last locator on: an iterator over them would be no plainer, since it has to say what it gives and that it ends.
 fn collect(
     lines: &mut Vec<Line>,
     indexer: &Indexer<Comparer, ByteGalley>,

@@ -1,44 +1,71 @@
 // Four six-bit codes in three bytes.
-ghost use Rattle.std.specs.Prelude.{◌≡◌, ◌+◌, ◌*◌, ◌<◌, ◌≤◌, length};
-ghost use Rattle.galleys.specs.Packing.{Recoded, characters, code_at, group, recoded_group};
+ghost use Rattle.std.specs.Prelude.{◌≡◌, ◌+◌, ◌*◌, ◌<◌, length};
+ghost use Rattle.galleys.specs.Packing.{Recoded, characters, code_at, code_in, group, recoded_group};
 
-// The three bytes of group `g` as one number.
-fn group_of(buffer: &[u8], g: usize) -> u32
-    requires { 3 * g + 2 < length buffer.now }
-    ensures value { result ≡ group buffer.now g }
-    ensures bound { result < 16777216 }
-{
-    u32::from_be_bytes([0, buffer[3 * g], buffer[3 * g + 1], buffer[3 * g + 2]])
+// A six-bit code.
+#[derive(Clone, Copy)]
+pub(super) struct Code {
+    pub(super) value: u8,
+    ghost six: { value < 64 },
+}
+
+// The three bytes of a group as one number.
+#[derive(Clone, Copy)]
+struct Group {
+    bits: u32,
+    ghost three: { bits < 16777216 },
+}
+
+impl Group {
+    // Group `g` of the buffer.
+    fn of(buffer: &[u8], g: usize) -> Group
+        requires { 3 * g + 2 < length buffer.now }
+        ensures value { result.bits ≡ group buffer.now g }
+    {
+        Group {
+            bits: u32::from_be_bytes([0, buffer[3 * g], buffer[3 * g + 1], buffer[3 * g + 2]]),
+        }
+    }
+
+    // Its code `r`, of four.
+    fn code(self, r: usize) -> Code
+        requires { r < 4 }
+        ensures value { result.value ≡ code_in self.bits r }
+    {
+        Code {
+            value: ((self.bits >> (18 - 6 * r)) % 64) as u8,
+        }
+    }
+
+    // The group with its code `r`, of four, made another one.
+    fn recoded(self, r: usize, code: Code) -> Group
+        requires { r < 4 }
+        ensures value { result.bits ≡ recoded_group self.bits r code.value }
+    {
+        let shift = 18 - 6 * r;
+        let old = (self.bits >> shift) % 64;
+        Group {
+            bits: self.bits - (old << shift) + ((code.value as u32) << shift),
+        }
+    }
 }
 
 // The code of character `p`.
-pub(super) fn code_at(buffer: &[u8], p: usize) -> u8
+pub(super) fn code_at(buffer: &[u8], p: usize) -> Code
     requires { p < characters (length buffer.now) }
-    ensures value { result ≡ code_at buffer.now p }
-    ensures bound { result < 64 }
+    ensures value { result.value ≡ code_at buffer.now p }
 {
-    ((group_of(buffer, p / 4) >> (18 - 6 * (p % 4))) % 64) as u8
-}
-
-// The group with its code `r`, of four, made `code`.
-fn recoded_group(group: u32, r: usize, code: u8) -> u32
-    requires { (group < 16777216) × ((r < 4) × (code < 64)) }
-    ensures value { result ≡ recoded_group group r code }
-    ensures bound { result < 16777216 }
-{
-    let shift = 18 - 6 * r;
-    let old = (group >> shift) % 64;
-    group - (old << shift) + ((code as u32) << shift)
+    Group::of(buffer, p / 4).code(p % 4)
 }
 
 // Makes the code of character `at` another one, and leaves every other.
-pub(super) fn recode(buffer: &mut [u8], at: usize, code: u8)
-    requires { (at < characters (length buffer.old)) × (code < 64) }
-    ensures recoded { Recoded buffer.old at code buffer.new }
+pub(super) fn recode(buffer: &mut [u8], at: usize, code: Code)
+    requires { at < characters (length buffer.old) }
+    ensures recoded { Recoded buffer.old at code.value buffer.new }
 {
     let g = at / 4;
-    let group = recoded_group(group_of(buffer, g), at % 4, code);
-    let [_, high, middle, low] = group.to_be_bytes();
+    let group = Group::of(buffer, g).recoded(at % 4, code);
+    let [_, high, middle, low] = group.bits.to_be_bytes();
     buffer[3 * g] = high;
     buffer[3 * g + 1] = middle;
     buffer[3 * g + 2] = low;

@@ -7,7 +7,7 @@ ghost use Rattle.std.proofs.Common.{rules};
 
 use super::buffered::Buffered;
 use super::encoding::{Encoding, MOST};
-use super::packing::{code_at, recode};
+use super::packing::{Code, code_at, recode};
 
 // Each three bytes of the buffer hold four characters, highest bits first; a character's code is its byte less 32. The text is the first 16,384 characters of the whole groups.
 #[derive(Clone, Copy)]
@@ -42,11 +42,14 @@ impl Encoding for SixBits {
 
     fn read(buffer: &[u8], at: usize, part: &mut [u8]) {
         for (i, b) in part.iter_mut().enumerate() {
-            *b = 32 + code_at(buffer, at + i);
+            *b = 32 + code_at(buffer, at + i).value;
         }
     }
 
     fn write(buffer: &mut [u8], at: usize, b: u8) {
-        recode(buffer, at, SixBits::show(b) - 32);
+        let code = Code {
+            value: SixBits::show(b) - 32,
+        };
+        recode(buffer, at, code);
     }
 }

@@ -2,6 +2,7 @@
 ghost use Rattle.std.specs.Prelude.{◌≡◌, ◌<◌, ◌≤◌, length};
 
 // A term of 1 to 64 bytes whose limit is below its length: bytes[0..len] are its bytes.
+// They stay an array with its length: no call may allocate, and a held term may be copied, which no vector of fixed capacity may.
 #[derive(Clone, Copy)]
 pub struct HeldTerm {
     pub(super) bytes: [u8; 64],

@@ -19,7 +19,7 @@ code_at-requires c =
 pub loop-i-preserved : goal.loop-i-preserved
 loop-i-preserved c =
     let f : ℕ → ℕ = λ k. 32 + code_at c.args.buffer.now (c.args.at + k) in
-    let x : 32 + c.code_at.result ≡ f c.loop-i.i = ap (λ v. 32 + v) c.code_at.ensures.value in
+    let x : 32 + c.code_at.result.value ≡ f c.loop-i.i = ap (λ v. 32 + v) c.code_at.ensures.value in
     λ k l.
     ap (λ v. get_or (set c.loop-i.part c.loop-i.i v) k 0) x
     ∙ fill_by_more f c.loop-i.part c.loop-i.i 0 (omega arith) c.loop-i.invariant k l

@@ -5,10 +5,7 @@ use Rattle.galleys.proofs.Codes.{length-text, shown-coded, text-recoded}
 use Rattle.galleys.proofs.six_bit.SixBitsEncoding.write.Goals as goal
 
 pub recode-requires : goal.recode-requires
-recode-requires c =
-    let n = length-text c.args.buffer.now 0 (six_length c.args.buffer.now) in
-    let coded = shown-coded c.args.b in
-    (omega (arith, c.requires), omega (arith, c.show.ensures.value))
+recode-requires c = let n = length-text c.args.buffer.now 0 (six_length c.args.buffer.now) in omega (arith, c.requires)
 
 pub returns-clause-text : goal.returns-clause-text
 returns-clause-text c =
