@@ -1,10 +1,11 @@
 // The bytes of the records.
-ghost use Rattle.std.specs.Prelude.{◌≡◌, ◌+◌, ◌≤◌, length, take};
+ghost use Rattle.std.specs.Prelude.{◌≡◌, ◌≤◌, length};
 ghost use Rattle.index_file.specs.Records.Record.{head, term, locator, end};
 ghost use Rattle.index_file.specs.Records.{encoded};
 
 use super::kind::Kind;
 use super::record::{Head, Term};
+use arrayvec::ArrayVec;
 use rules::locator::Locator;
 
 // The head's record.
@@ -30,16 +31,16 @@ pub(super) fn head_bytes(given: Head) -> [u8; 12]
     ]
 }
 
-// A term's record: the first `6 + m` of these bytes, for a term of m.
-pub(super) fn term_bytes(given: Term<'_>) -> [u8; 70]
+// A term's record.
+pub(super) fn term_bytes(given: Term<'_>) -> ArrayVec<u8, 70>
     requires { length given.bytes.now ≤ 64 }
-    ensures value { take (6 + length given.entry.bytes.now) result ≡ encoded (term given.entry.number given.entry.limit given.entry.bytes.now) }
+    ensures value { result.items ≡ encoded (term given.entry.number given.entry.limit given.entry.bytes.now) }
 {
-    let m = given.bytes.len();
-    let length = m as u8 + 2;
-    let mut record = [0u8; 70];
-    record[0..6].copy_from_slice(&[length, 0, Kind::Term.into(), 0, given.number, given.limit]);
-    record[6..6 + m].copy_from_slice(given.bytes);
+    let length = given.bytes.len() as u8 + 2;
+    let front = [length, 0, Kind::Term.into(), 0, given.number, given.limit];
+    let mut record = ArrayVec::new();
+    let _ = record.try_extend_from_slice(&front);
+    let _ = record.try_extend_from_slice(given.bytes);
     record
 }
 

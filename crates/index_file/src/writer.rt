@@ -43,7 +43,7 @@ impl Headed {
         }
         let at = self.at;
         let bytes = term_bytes(given);
-        let (Headed { at: _, locators }, at) = place(self, at, buffer, &bytes[0..6 + m])?;
+        let (Headed { at: _, locators }, at) = place(self, at, buffer, bytes.as_slice())?;
         Ok(Headed { at, locators })
     }
 
