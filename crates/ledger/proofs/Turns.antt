@@ -16,7 +16,7 @@ module _ (starts : List ℕ) (at : ℕ) where
   opening-free h f = ap (λ b. cond b (cond (ltb (length starts) 256) None (Some PagesFull)) (Some PageOrder)) (lt-ltb _ _ h) ∙ ap (λ b. cond b None (Some PagesFull)) (lt-ltb _ _ f)
 
 -- the last place that passes
-last_passing-at : (q : ℕ → Bool) (n i : ℕ) → i < n → q i ≡ true → ((k : ℕ) → i < k → k < n → q k ≡ false) → last_passing q n ≡ i + 1
+pub last_passing-at : (q : ℕ → Bool) (n i : ℕ) → i < n → q i ≡ true → ((k : ℕ) → i < k → k < n → q k ≡ false) → last_passing q n ≡ i + 1
 unfolding last_passing
 last_passing-at q zero i l on off = absurd (omega arith)
 last_passing-at q (suc n) i l on off =
