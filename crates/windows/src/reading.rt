@@ -62,7 +62,7 @@ impl<'a> Reading<'a> {
         })
     }
 
-    // The word of the starts.
+    // The word of the starts. The inner loop is left by a labelled break, a form that the project asks for.
     pub(super) fn word(&self) -> u64
         ensures { result ≡ scanned (term_of self.now.term.now) self.now.stretch.now }
     {
