@@ -8,7 +8,6 @@ use matchers::comparer::Comparer;
 use rules::locator::Locator;
 use rules::refusal::Refusal;
 use std::alloc::{AllocError, Global};
-use std::ops::Range;
 use telling::answers::code;
 use telling::sums::{drawn, mixed};
 use term_sheet::enters::enter_sheet;
@@ -36,7 +35,7 @@ fn last_three(text: &[u8]) -> [u8; 3] {
 }
 
 // Prints the number of an answer: 0, or the refusal's.
-fn told(
+fn print_answer(
     rt: &HostRuntime,
     action: &str,
     number: usize,
@@ -54,15 +53,15 @@ struct Short<'a> {
     bytes: &'a [u8],
 }
 
-// Enters the terms one after the other, under these numbers.
+// Enters the terms one after the other, from the number on.
 fn enter_all(
     rt: &HostRuntime,
     book: &mut Book,
-    numbers: Range<usize>,
+    from: usize,
     terms: &[Short],
 ) -> anyhow::Result<()> {
-    for (number, term) in numbers.zip(terms) {
-        told(
+    for (number, term) in (from..).zip(terms) {
+        print_answer(
             rt,
             "enter",
             number,
@@ -77,7 +76,7 @@ fn enter_terms(rt: &HostRuntime, book: &mut Book, end: &[u8]) -> anyhow::Result<
     enter_all(
         rt,
         book,
-        0..8,
+        0,
         &[
             Short {
                 limit: 0,
@@ -116,7 +115,7 @@ fn enter_terms(rt: &HostRuntime, book: &mut Book, end: &[u8]) -> anyhow::Result<
     enter_all(
         rt,
         book,
-        8..17,
+        8,
         &[
             Short {
                 limit: 0,
@@ -164,7 +163,7 @@ fn list(rt: &HostRuntime, book: &Book, number: usize, each: bool) -> anyhow::Res
     let mut count = 0u32;
     let mut sum = 0u32;
     let mut from = 0;
-    for _ in 0..16385 {
+    for _ in 0..16384 {
         let Ok(Some(locator)) = book.locator(number, from) else {
             break;
         };
@@ -225,9 +224,9 @@ fn page_too_many(rt: &HostRuntime) -> anyhow::Result<()> {
         1,
     );
     page_all(rt.alloc(), &mut book)?;
-    told(rt, "page", 257, book.page(16383))?;
-    told(rt, "page", 255, book.page(255 * 60))?;
-    told(rt, "page", 273, book.page(16384))
+    print_answer(rt, "page", 257, book.page(16383))?;
+    print_answer(rt, "page", 255, book.page(255 * 60))?;
+    print_answer(rt, "page", 273, book.page(16384))
 }
 
 // What a sheet is answered, entered into an empty book.

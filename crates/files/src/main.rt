@@ -60,7 +60,7 @@ impl Buffers<'_> {
         }
     }
 
-    // Writes an entry; a term that is none is left out.
+    // Writes an entry; a term that is refused for its length is left out.
     fn add(&mut self, file: Headed, entry: Entry<'_>) -> (Headed, Option<Refusal>)
         ensures reach { result.0.at ≤ file.at + 70 }
     {

@@ -15,14 +15,6 @@ fetched-all text at old new h e =
       after = e ∙ ap (λ b. cond b (take (length old) (drop at text)) old) (sym on);
     }
 
-pub fetched-none : (text : List ℕ) (at : ℕ) (old new : List ℕ) → length text < at + length old → new ≡ old → Fetched text at old (Err PastText) new
-fetched-none text at old new h e =
-    let off = lt-leb (at + length old) (length text) h in
-    record {
-      value = ap (λ b. answer_of (cond b None (Some PastText))) (sym off);
-      after = e ∙ ap (λ b. cond b (take (length old) (drop at text)) old) (sym off);
-    }
-
 pub put_one : {G : Type 0} (text : G → List ℕ) (old : G) (at shown : ℕ) (new : G) → at < length (text old) → text new ≡ set (text old) at shown → Put text old at shown (Ok tt) new
 put_one text old at shown new h e = record {
   value = ap (λ b. answer_of (cond b None (Some PastText))) (sym (lt-ltb at (length (text old)) h));

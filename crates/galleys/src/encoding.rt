@@ -35,7 +35,9 @@ pub trait Encoding {
         ensures text { decoded buffer.new ≡ slice_set (decoded buffer.old) at (shows b) }
         ensures buffer { Writes buffer.old at (shows b) buffer.new };
 
+    // what is shown is shown as itself, and a fold before it does not matter to its fold
     ghost showing: { Showing shows };
 
+    // a text is short, and each of its bytes is shown as itself
     ghost texts: { (buffer : List ℕ) → Text shows (decoded buffer) };
 }

@@ -31,7 +31,7 @@ pub(super) fn head_bytes(given: Head) -> [u8; 12]
     ]
 }
 
-// A term's record.
+// A term's record. It has room for 6 bytes and a term's 64, so neither part is refused.
 pub(super) fn term_bytes(given: Term<'_>) -> ArrayVec<u8, 70>
     requires { length given.bytes.now ≤ 64 }
     ensures value { result.items ≡ encoded (term given.entry.number given.entry.limit given.entry.bytes.now) }

@@ -1,5 +1,4 @@
 // Making an indexer, opening pages and entering terms.
-ghost use Rattle.std.specs.Prelude.{◌≡◌};
 ghost use Rattle.indexer.specs.Called.{Made, Called};
 ghost use Rattle.indexer.specs.Machine.Call.{page, enter};
 ghost use Rattle.indexer.specs.Machine.Answer.{said};

@@ -1,5 +1,5 @@
 // Searching one block of the text for one term.
-ghost use Rattle.std.specs.Prelude.{◌≡◌, ◌≤◌, length};
+ghost use Rattle.std.specs.Prelude.{length};
 ghost use Rattle.std.specs.Option.{option_map};
 ghost use Rattle.rules.specs.Held.{term_of};
 ghost use Rattle.indexer.specs.Looks.{Looked, Sought};

@@ -1,27 +1,11 @@
 // A term as a galley shows it.
-ghost use Rattle.std.specs.Prelude.{◌≡◌, map, length};
+ghost use Rattle.std.specs.Prelude.{map};
 ghost use Rattle.rules.specs.Held.{Held};
 
+use arrayvec::ArrayVec;
 use galleys::galley::Galley;
 use rules::held::HeldTerm;
 use rules::refusal::Refusal;
-
-// The buffer filled with the term's bytes as the galley shows them, and these held with the limit.
-fn hold_shown<G: Galley>(
-    galley: &G,
-    term: &[u8],
-    limit: usize,
-    shown: &mut [u8],
-) -> Result<HeldTerm, Refusal>
-    requires { length shown.old ≡ length term.now }
-    ensures cases { Held (map G.Galley.shows term.now) limit result }
-{
-    shown.copy_from_slice(term);
-    for b in shown.iter_mut() {
-        *b = galley.show(*b);
-    }
-    HeldTerm::new(shown, limit)
-}
 
 // The term, each byte as the galley shows it, where there can be such a term.
 pub(super) fn shown_term<G: Galley>(
@@ -31,10 +15,12 @@ pub(super) fn shown_term<G: Galley>(
 ) -> Result<HeldTerm, Refusal>
     ensures cases { Held (map G.Galley.shows term.now) limit result }
 {
-    let m = term.len();
-    if m > 64 {
+    if term.len() > 64 {
         return Err(Refusal::TermLength);
     }
-    let mut buffer = [0u8; 64];
-    hold_shown(galley, term, limit, &mut buffer[0..m])
+    let mut shown: ArrayVec<u8, 64> = ArrayVec::new();
+    for b in term {
+        shown.push(galley.show(*b));
+    }
+    HeldTerm::new(shown.as_slice(), limit)
 }

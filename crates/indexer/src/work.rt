@@ -1,5 +1,4 @@
 // Doing the owed units.
-ghost use Rattle.std.specs.Prelude.{◌≡◌};
 ghost use Rattle.ledger.specs.Units.{unit_index};
 ghost use Rattle.indexer.specs.Called.{Called};
 ghost use Rattle.indexer.specs.Works.{Did};

@@ -1,4 +1,7 @@
 // The pasted bytes of a layer.
+ghost use Rattle.std.specs.Prelude.{◌≤◌};
+ghost use Rattle.arrayvec.specs.ArrayVec.{array_vec_len};
+
 use super::paste::Paste;
 use arrayvec::ArrayVec;
 
@@ -6,4 +9,5 @@ use arrayvec::ArrayVec;
 #[derive(Drop)]
 pub struct Pastes {
     pub(super) list: ArrayVec<Paste, 32>,
+    ghost few: { array_vec_len list ≤ 32 },
 }

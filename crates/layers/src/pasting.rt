@@ -1,5 +1,5 @@
 // Looking for, adding and replacing pasted bytes.
-ghost use Rattle.std.specs.Prelude.{◌≡◌, ◌≤◌, false, [], length, ◌==◌, position};
+ghost use Rattle.std.specs.Prelude.{◌≡◌, false, [], ◌==◌, position};
 ghost use Rattle.layers.specs.Pasted.{is_full, paste_in, paste_list};
 
 use super::paste::Paste;
@@ -19,7 +19,6 @@ impl Pastes {
     // Which of them has the place.
     fn find(&self, at: usize) -> Option<usize>
         ensures value { result ≡ position (λ p. p.at == at) (paste_list self.now) }
-        ensures few { length (paste_list self.now) ≤ 32 }
     {
         self.list.iter().position(|paste| paste.at == at)
     }

@@ -4,4 +4,3 @@ pub mod Rows
 pub mod Owing
 pub mod Turns
 pub mod Firsts
-pub mod Touching

@@ -32,25 +32,3 @@ pub lowest-is : (word : ℕ) (r : Result TermNumber Refusal) → Numbered (count
 lowest-is word (Ok number) e =
     (ap (bit word) e.0 ∙ trailing_at 16 word (omega (arith, number.below)), λ n l. trailing_below 16 word n (omega arith))
 lowest-is word (Err refusal) e = λ n l. let past : 15 < count_trailing_zeros 16 word = grind (arith, nat_tests) in trailing_below 16 word n (omega arith)
-
--- no unit of the block is owed
-pub none-at : (d : Debts) (b : ℕ) → Lowest (get_or d.words b 0) None → (x : ℕ) → x / 16 ≡ b → owed d x ≡ false
-none-at d b none x at = ap (owes d (x % 16)) at ∙ none (x % 16) (omega arith)
-
--- the first owed unit of the blocks from `from` on is that of the block's lowest number
-pub foremost : (d : Debts) (from b : ℕ) (number : TermNumber) (u : Unit) → unit_index u ≡ 16 * b + number.value → from ≤ b → b < 256 →
-    ((x : ℕ) → 16 * from ≤ x → x < 16 * b → owed d x ≡ false) → Lowest (get_or d.words b 0) (Some number) → Foremost d from u
-foremost d from b number u at low high none lowest =
-    let small : number.value < 16 = number.below in
-    record {
-      low = omega arith;
-      high = omega arith;
-      here = ap (owed d) at ∙ owed-at d b number.value small ∙ lowest.0;
-      before = λ x l h.
-          ⊎_elim
-          (λ (k : x < 16 * b). none x l k)
-          (λ (k : 16 * b ≤ x).
-          let block : x / 16 ≡ b = omega arith in
-          ap (owes d (x % 16)) block ∙ lowest.1 (x % 16) (omega arith))
-          (cases_lt x (16 * b));
-    }

@@ -18,11 +18,3 @@ term-set rs i r n h =
     (λ (e : n ≡ i). ap (λ x. get_or (set (map row_term rs) i (row_term r)) x None) e ∙ get_or-set_same (map row_term rs) i (row_term r) None l ∙ ap (λ b. cond b (row_term r) old) (sym (eq-eqb n i e)))
     (λ (e : n ≡ i → ⊥). get_or-set_other (map row_term rs) i n (row_term r) None e ∙ ap (λ b. cond b (row_term r) old) (sym (ne_eqb n i e)))
     (cases_eq n i)
-
--- a row is read
-pub term-read : (rs : List Row) (n : ℕ) (d : Row) → n < length rs → row_term (get_or rs n d) ≡ get_or (map row_term rs) n None
-term-read rs n d h = sym (get_or-map row_term rs n d None h)
-
--- no term stands under a number past 15
-pub none-past : (ts : Terms) (n : ℕ) → 16 ≤ n → standing ts n ≡ None
-none-past ts n h = get_or_past (map row_term ts.table.rows) n None (simp length-map (omega (arith, ts.sixteen)))

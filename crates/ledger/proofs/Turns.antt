@@ -5,16 +5,6 @@ use Rattle.std.proofs.lemmas.Bool.{cases_eq, cases_lt, lt-ltb, le-ltb, le-leb, l
 use Rattle.rules.specs.declared.refusal.Refusal.TheVariants.{PageOrder, PagesFull}
 use Rattle.ledger.specs.Pages.{last_start, opening, last_passing, page_at, place_at}
 
-module _ (starts : List ℕ) (at : ℕ) where
-  pub opening-late : at ≤ last_start starts → opening starts at ≡ Some PageOrder
-  opening-late h = ap (λ b. cond b (cond (ltb (length starts) 256) None (Some PagesFull)) (Some PageOrder)) (le-ltb _ _ h)
-
-  pub opening-full : last_start starts < at → 256 ≤ length starts → opening starts at ≡ Some PagesFull
-  opening-full h f = ap (λ b. cond b (cond (ltb (length starts) 256) None (Some PagesFull)) (Some PageOrder)) (lt-ltb _ _ h) ∙ ap (λ b. cond b None (Some PagesFull)) (le-ltb _ _ f)
-
-  pub opening-free : last_start starts < at → length starts < 256 → opening starts at ≡ None
-  opening-free h f = ap (λ b. cond b (cond (ltb (length starts) 256) None (Some PagesFull)) (Some PageOrder)) (lt-ltb _ _ h) ∙ ap (λ b. cond b None (Some PagesFull)) (lt-ltb _ _ f)
-
 -- the last place that passes
 pub last_passing-at : (q : ℕ → Bool) (n i : ℕ) → i < n → q i ≡ true → ((k : ℕ) → i < k → k < n → q k ≡ false) → last_passing q n ≡ i + 1
 unfolding last_passing
@@ -53,6 +43,3 @@ module _ (starts : List ℕ) (s i : ℕ) (some : 1 ≤ length starts) (first : g
       last_passing-at (λ k. leb (get_or starts k 0) s) (length starts) (i - 1) (omega arith) (point.0 (i - 1) 0 (omega arith) (omega arith))
       (λ k a b. point.1 k 0 (omega arith) b) in
       omega (arith, last)
-
-  pub point-place : s - get_or starts (i - 1) 0 ≡ place_at starts s
-  point-place = ap (λ n. s - get_or starts (n - 1) 0) point-page

@@ -14,7 +14,7 @@ use super::unit::Unit;
 use rules::held::HeldTerm;
 use rules::numbers::TermNumber;
 
-// The units of the term under the number `n` that the change meets are owed.
+// The units of the term under the number `n` that the change meets are owed; under a number past 15 stands none. It takes the two parts of a ledger that it needs, so that nothing has to be said of the others.
 fn touch_one(debts: &mut Debts, terms: &Terms, n: usize, change: Change)
     ensures after { (k b : ℕ) → owes debts.new k b ≡ (if nat_eq k n && (touches (standing terms.now n) change.at change.len b && nat_lt b 256) then true else owes debts.old k b) }
 {

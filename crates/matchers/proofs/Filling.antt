@@ -127,11 +127,6 @@ module _ (start table : List ℕ) (hit : ℕ → Bool) (F : ℕ → ℕ) (b : �
     fill-miss y c lc =
         h c lc ∙ ap (λ x. cond x (F (get_or start c 0)) (get_or start c 0)) (places-miss hit b c y)
 
-    pub fill-all : 256 ≤ b → (c : ℕ) → c < 256 → get_or table c 0 ≡ cond (hit c) (F (get_or start c 0)) (get_or start c 0)
-    fill-all l c lc =
-        let u : ltb c b ≡ true = lt-ltb c b (omega arith) in
-        h c lc ∙ ap (λ x. cond (x && hit c) (F (get_or start c 0)) (get_or start c 0)) u
-
 -- Shift-And's words: a set bit is a match
 pub set-marks : (i : ℕ) → i < 32 → (p : ℕ → Bool) → bit_or (word_of p 32) (1 * 2 ^ i % 2 ^ 32) ≡ word_of (λ j. p j || eqb j i) 32
 set-marks i l p = word_set p i 32 l

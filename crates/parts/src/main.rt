@@ -92,7 +92,7 @@ fn write_head(buffer: &mut [u8; 41]) -> Headed
     };
     match Unheaded::begin().head(buffer, head) {
         Ok(file) => file,
-        Err(_) => unreachable(),
+        Err(_) => unreachable!(),
     }
 }
 
@@ -112,20 +112,20 @@ fn write_rest(file: Headed, buffer: &mut [u8; 41]) -> usize
         variant: 0,
     };
     let Declined { refusal: _, back } = match file.term(&mut buffer[0..21], term) {
-        Ok(_) => unreachable(),
+        Ok(_) => unreachable!(),
         Err(declined) => declined,
     };
     let file = match back.term(buffer, term) {
         Ok(file) => file,
-        Err(_) => unreachable(),
+        Err(_) => unreachable!(),
     };
     let file = match file.locator(buffer, locator) {
         Ok(file) => file,
-        Err(_) => unreachable(),
+        Err(_) => unreachable!(),
     };
     match file.end(buffer) {
         Ok(length) => length,
-        Err(_) => unreachable(),
+        Err(_) => unreachable!(),
     }
 }
 

@@ -12,7 +12,7 @@ impl HeldTerm {
         ensures cases { Held term.now limit result }
     {
         let m = term.len();
-        if m == 0 || m > 64 {
+        if !(1..=64).contains(&m) {
             return Err(Refusal::TermLength);
         }
         if limit >= m {

@@ -23,7 +23,7 @@ pub(super) struct Case {
 }
 
 // A number from a place, spread over its bits.
-fn mixed(i: usize) -> usize {
+fn spread(i: usize) -> usize {
     ((i & 0xffff) as u32).wrapping_mul(2654435761) as usize >> 16
 }
 
@@ -42,7 +42,7 @@ impl Kind {
         match self {
             Kind::Repeats => b'a',
             Kind::Period => b"ab"[i % 2],
-            Kind::Letters => b"abAB \t\n\r"[mixed(i) % 8],
+            Kind::Letters => b"abAB \t\n\r"[spread(i) % 8],
             Kind::Values => ((i & 0xff) * 37 + 11 & 0xff) as u8,
             Kind::Words => {
                 let b = b"the cat and "[i % m.max(1) % 12];
@@ -69,7 +69,7 @@ impl Kind {
 }
 
 impl Case {
-    // The term's bytes, as many as can be asked for.
+    // The term's bytes, as many as can be asked for; the mask shows that a place in them is small.
     pub(super) fn term(self) -> [u8; 65] {
         std::array::from_fn(|i| self.kind.byte((i & 0xff) + self.kind.term_start(), self.m))
     }

@@ -3,11 +3,13 @@
 
 mod case;
 mod printed;
+mod promises;
 
 use case::{Case, Kind};
 use matchers::comparer::Comparer;
 use matchers::matcher::Matcher;
 use printed::Printed;
+use promises::{and_state, and_word, or_state, or_word};
 use rules::refusal::Refusal;
 use shifts::shift_and::ShiftAnd;
 use shifts::shift_or::ShiftOr;
@@ -62,13 +64,13 @@ fn lines(rt: &HostRuntime, all: &mut All, kind: Kind, m: usize) -> anyhow::Resul
 // The table words of some bytes.
 fn table_words(rt: &HostRuntime, all: &All, bytes: &[u8]) -> anyhow::Result<()> {
     for &byte in bytes {
-        if let Ok(word) = all.shift_or.table_word(byte) {
+        if let Ok(word) = or_word(&all.shift_or, byte) {
             println!(rt; "or table {byte}: {word}")?;
         }
         if let Ok(word) = all.two_way.table_word(byte) {
             println!(rt; "two-way table {byte}: {word}")?;
         }
-        if let Ok(word) = all.shift_and.table_word(byte) {
+        if let Ok(word) = and_word(&all.shift_and, byte) {
             println!(rt; "and table {byte}: {word}")?;
         }
     }
@@ -79,10 +81,10 @@ fn table_words(rt: &HostRuntime, all: &All, bytes: &[u8]) -> anyhow::Result<()> 
 fn forward_states(rt: &HostRuntime, all: &All, stretch: &[u8]) -> anyhow::Result<()> {
     for n in 0..stretch.len() {
         let read = &stretch[..n];
-        if let Ok(state) = all.shift_or.state(read) {
+        if let Ok(state) = or_state(&all.shift_or, read) {
             println!(rt; "or state {n}: {state}")?;
         }
-        if let Ok(state) = all.shift_and.state(read) {
+        if let Ok(state) = and_state(&all.shift_and, read) {
             println!(rt; "and state {n}: {state}")?;
         }
     }
@@ -100,7 +102,7 @@ fn window_states(rt: &HostRuntime, all: &All, stretch: &[u8]) -> anyhow::Result<
     Ok(())
 }
 
-// Tables and states for the term, which matches in its own case; a matcher that it does not fit keeps its own.
+// Tables and states for the term, of which Shift-And takes the first byte in either case where there are two; a matcher that it does not fit keeps its own.
 fn inside(rt: &HostRuntime, all: &mut All, term: &[u8], stretch: &[u8]) -> anyhow::Result<()> {
     let m = term.len();
     println!(rt; "inside {m}")?;

@@ -9,6 +9,7 @@ use super::shifting::Shifting;
 use super::tables::set_table;
 use rules::held::HeldTerm;
 
+// A table of its own beside OrTable: one array over both words would need a default word at a parameter, to read a place by, for three calls of a line each.
 // The word of each byte: bit i is set exactly where the byte matches the term's byte i.
 #[derive(Drop)]
 pub struct AndTable {
@@ -52,7 +53,7 @@ impl Forward for AndTable {
             return None;
         }
         Some(AndTable {
-            words: set_table(term.bytes(), term.limit()),
+            words: set_table(term),
         })
     }
 
@@ -69,6 +70,7 @@ impl Forward for AndTable {
     }
 
     fn ends(state: u32, term: &HeldTerm) -> bool {
+        // a term may have 64 bytes here, of which the state has no bit
         (u64::from(state) >> (term.bytes().len() - 1)) & 1 == 1
     }
 }

@@ -22,7 +22,7 @@ fn make_buffer(heap: Global, n: usize) -> Result<Vec<u8>, AllocError> {
     Ok(buffer)
 }
 
-// What a fetch of `l` bytes answers.
+// What a fetch of `l` bytes answers, of at most 127.
 fn try_fetch<G: Galley>(galley: &G, at: usize, l: usize) -> Result<(), Refusal> {
     let mut buffer = [0u8; 127];
     galley.fetch(at, &mut buffer[..l.min(127)])
@@ -171,7 +171,7 @@ fn set_word<G: Galley>(galley: &mut G, word: &[u8]) -> Result<(), Refusal> {
     Ok(())
 }
 
-// Prints the bytes as numbers.
+// Prints the bytes as numbers. The loop stands in files and parts too: a type that prints them, in a library, would owe the text that it prints, for one line of a loop.
 fn print_bytes(rt: &HostRuntime, name: &str, bytes: &[u8]) -> anyhow::Result<()> {
     print!(rt; "{name}:")?;
     for b in bytes {

@@ -5,7 +5,7 @@ ghost use Rattle.term_sheet.specs.Faults.{fault_text};
 use rules::refusal::Refusal;
 use std::fmt;
 
-// The layer at fault: the sheet's own rules, or the indexer that a line was entered into. Then the line, the place of the byte in the sheet, and the refusal.
+// The layer at fault: the sheet's own rules, or the indexer that a line was entered into. Then the line, the place of the byte in the sheet, and the refusal. Both cases have the same fields, since the case is the layer, the first thing that a fault names.
 #[derive(Clone, Copy, PartialEq, Eq, Debug)]
 pub enum Fault {
     Sheet {

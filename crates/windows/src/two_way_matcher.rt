@@ -8,7 +8,6 @@ ghost use Rattle.std.proofs.Common.{rules, arith};
 
 use super::reading::Reading;
 use super::two_way::TwoWayShiftOr;
-use super::window::{LAST_START, Window};
 use matchers::asked::held_for;
 use matchers::matcher::Matcher;
 use matchers::tables::clear_table;
@@ -73,7 +72,7 @@ impl Matcher for TwoWayShiftOr {
             return Err(Refusal::TermUnfit);
         }
         *self = TwoWayShiftOr {
-            table: clear_table(&held, 64),
+            table: clear_table(&held, 64 - held.bytes().len()),
             term: Some(held),
         };
         Ok(())

@@ -1,5 +1,5 @@
 // A window of a stretch, read from its centre both ways.
-ghost use Rattle.std.specs.Prelude.{◌≡◌, ℕ, ◌+◌, ◌-◌, ◌*◌, ◌/◌, ◌%◌, ◌^◌, ◌<◌, ◌≤◌, cond, length, None, bit_or, nat_lt};
+ghost use Rattle.std.specs.Prelude.{◌≡◌, ◌+◌, ◌-◌, ◌*◌, ◌/◌, ◌%◌, ◌^◌, ◌<◌, ◌≤◌, cond, length, None, bit_or, nat_lt};
 ghost use Rattle.rules.specs.Held.{term_of};
 ghost use Rattle.windows.specs.Windows.{window_marked, window_steps, word_at};
 

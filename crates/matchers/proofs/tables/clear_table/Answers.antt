@@ -7,13 +7,13 @@ use Rattle.matchers.proofs.Filling.{clear_view, clear_view-same, clear_view-mark
 use Rattle.matchers.proofs.tables.clear_table.Goals as goal
 
 pub loop-i-init : goal.loop-i-init
-loop-i-init c = (refl, clear_none (record { bytes = c.bytes-bytes.result.now; limit = 0 }) c.min-lowest.result)
+loop-i-init c = (refl, clear_none (record { bytes = c.bytes-bytes.result.now; limit = 0 }) c.min-first.result)
 
 pub loop-i-preserved : goal.loop-i-preserved
 loop-i-preserved c =
     let bytes = c.bytes-bytes.result.now in
     let i = c.loop-i.i in
-    let d = c.min-lowest.result in
+    let d = c.min-first.result in
     let t : Term = record { bytes = bytes; limit = 0 } in
     let long = held-length c.args.term.now in
     let room : length bytes ≤ 64 = omega (arith, ap length c.bytes-bytes.ensures.value, c.args.term.now.short) in (
@@ -24,9 +24,9 @@ loop-i-preserved c =
 
 pub returns : goal.returns
 returns c =
-    let filled = clear-all (record { bytes = c.bytes-bytes.result.now; limit = 0 }) c.min-lowest.result c.loop-i.i c.loop-i.table (omega arith) c.loop-i.invariant.1 in
+    let filled = clear-all (record { bytes = c.bytes-bytes.result.now; limit = 0 }) c.min-first.result c.loop-i.i c.loop-i.table (omega arith) c.loop-i.invariant.1 in
     record {
       rows =
-          subst (λ (bytes : List ℕ). Rows c.loop-i.table (clear_row (record { bytes = bytes; limit = 0 }) (min c.args.above (64 - length bytes)))) c.bytes-bytes.ensures.value
-          (subst (λ (d : ℕ). Rows c.loop-i.table (clear_row (record { bytes = c.bytes-bytes.result.now; limit = 0 }) d)) c.min-lowest.ensures filled);
+          subst (λ (bytes : List ℕ). Rows c.loop-i.table (clear_row (record { bytes = bytes; limit = 0 }) (min c.args.lowest (64 - length bytes)))) c.bytes-bytes.ensures.value
+          (subst (λ (d : ℕ). Rows c.loop-i.table (clear_row (record { bytes = c.bytes-bytes.result.now; limit = 0 }) d)) c.min-first.ensures filled);
     }

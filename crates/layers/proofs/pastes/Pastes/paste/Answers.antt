@@ -7,7 +7,7 @@ use Rattle.layers.proofs.Overlays.{found, found-none, roomy, paste-found, paste-
 use Rattle.layers.proofs.pastes.Pastes.paste.Goals as goal
 
 pub push-requires : goal.push-requires
-push-requires c = (lit< tt, roomy (paste_list c.args.self.now) c.args.at c.find.ensures.few c.requires c.in-None.ensures.value)
+push-requires c = (lit< tt, roomy (paste_list c.args.self.now) c.args.at c.args.self.now.few c.requires c.in-None.ensures.value)
 
 pub returns-in-Some : goal.returns-in-Some
 returns-in-Some c =
@@ -23,3 +23,8 @@ returns-in-Some c =
 
 pub returns-in-None : goal.returns-in-None
 returns-in-None c = record { after = c.push.ensures.items ∙ sym (paste-added (paste_list c.args.self.now) c.args.at c.args.byte (found-none (paste_list c.args.self.now) c.args.at c.in-None.ensures.value)) }
+
+pub invariant_of-self-in-None : goal.invariant_of-self-in-None
+invariant_of-self-in-None c =
+    let room = roomy (paste_list c.args.self.now) c.args.at c.args.self.now.few c.requires c.in-None.ensures.value in
+    record { few = omega (arith, c.push.ensures.len) }
