@@ -9,6 +9,7 @@ use matchers::matcher::Matcher;
 use rules::held::HeldTerm;
 
 // The word of the term's occurrences in the block, as the matcher finds them in the present text.
+// Here and below the matcher and the galley are lent apart and not as parts of an indexer, so that nothing has to be said of its other parts.
 pub(super) fn look<M: Matcher, G: Galley>(
     matcher: &mut M,
     galley: &G,
@@ -26,6 +27,7 @@ pub(super) fn look<M: Matcher, G: Galley>(
     let bytes = term.bytes();
     matcher.prepare(bytes, term.limit()).ok()?;
     let len = (63 + bytes.len()).min(n - start);
+    // an array cut to its length, since no call may allocate and a fetch fills what it is lent
     let mut buffer = [0u8; 127];
     seek(matcher, galley, start, &mut buffer[0..len])
 }

@@ -18,6 +18,7 @@ fn stands_at<G: Galley>(galley: &G, bytes: &[u8], start: usize, buffer: &mut [u8
 pub(super) fn variant_at<G: Galley>(galley: &G, term: &HeldTerm, start: u16) -> u8
     ensures value { result ≡ variant_at (term_of term.now) (G.Galley.text galley.now) start }
 {
+    // an array cut to its length, since no call may allocate and a fetch fills what it is lent
     let mut buffer = [0u8; 64];
     let bytes = term.bytes();
     let own = stands_at(galley, bytes, start as usize, &mut buffer[0..bytes.len()]);

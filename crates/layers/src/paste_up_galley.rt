@@ -11,6 +11,7 @@ use galleys::galley::Galley;
 use rules::refusal::Refusal;
 
 // Puts the pasted bytes into the galley, the last held first.
+// Here and below the two parts of a paste-up are lent apart, since the one is changed while the other is read.
 fn put_all<G: Galley>(galley: &mut G, pastes: &Pastes)
     ensures after { G.Galley.text galley.new ≡ over G.Galley.shows (G.Galley.text galley.old) (paste_list pastes.now) }
 {

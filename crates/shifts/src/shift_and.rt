@@ -40,6 +40,7 @@ impl Forward for AndTable {
 
     ghost forward = { and-forward };
 
+    // It is the comparer's line with another number, which each matcher says for itself.
     fn fits(m: usize, k: usize) -> bool {
         (1..=32).contains(&m) && k < m
     }

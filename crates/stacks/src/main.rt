@@ -163,7 +163,7 @@ fn holding(rt: &HostRuntime) -> anyhow::Result<()> {
     back(rt, paste_up.into_below().into_buffer())
 }
 
-// Puts the word at the galley's start, up to the first refusal.
+// Puts the word at the galley's start, up to the first refusal; the program parts goes on past one, and a loop of one line is no plainer in a library.
 fn set_word<G: Galley>(galley: &mut G, word: &[u8]) -> Result<(), Refusal> {
     for (at, b) in word.iter().enumerate() {
         galley.put(at, *b)?;
