@@ -157,7 +157,7 @@ fn enter_terms(rt: &HostRuntime, book: &mut Book, end: &[u8]) -> anyhow::Result<
     )
 }
 
-// Prints how many locators the term has and their running sum; each of them too where the text is short.
+// Prints how many locators the term has and their running sum; each of them too where the text is short. `each` adds one print; a closure for it would be no plainer.
 // The loop asks from behind the last locator on: an iterator over them would be no plainer, since it has to say what it gives and that it ends. bookindex asks so too, but keeps what it is given.
 fn list(rt: &HostRuntime, book: &Book, number: usize, each: bool) -> anyhow::Result<()> {
     let mut count = 0u32;

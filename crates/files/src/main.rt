@@ -194,7 +194,7 @@ fn show(rt: &HostRuntime, plan: &Plan<'_>, buffer: &mut [u8], room: usize) -> an
     Ok(())
 }
 
-// Prints the bytes of the sample.
+// Prints the bytes of the sample. parts and stacks print bytes so too: a type that prints them, in a library, would owe the text that it prints, for one line of a loop.
 fn print_sample(rt: &HostRuntime) -> anyhow::Result<()> {
     let mut buffer = [0u8; 82];
     let mut buffers = Buffers {

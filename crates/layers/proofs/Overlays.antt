@@ -7,6 +7,7 @@ use Rattle.std.proofs.lemmas.List.Folds.{length-prefix_len}
 use Rattle.std.proofs.lemmas.Bool.Decides.{nat_tests}
 use Rattle.std.proofs.lemmas.Bool.{cases_Bool}
 use Rattle.galleys.proofs.Parts.{take-set-in}
+use Rattle.galleys.specs.declared.galley.Galley as galley
 use Rattle.layers.specs.declared.paste.Paste.{Paste}
 use Rattle.layers.specs.PastedTexts.{length_over}
 use Rattle.layers.specs.Pasted.{Pasting, first_at, is_full, paste_in, over}
@@ -102,8 +103,12 @@ module _ (shows : ℕ → ℕ) (text : List ℕ) (p : Paste) (done : List Paste)
   laid-behind u v = is ∙ sym (part-set-behind (over shows text done) at l p.at (shows p.byte) u v)
 
 -- the text after a put
-pub pasting-text : {G : Type 0} (text : G → List ℕ) (shows : ℕ → ℕ) (old : G) (ps : List Paste) (at b : ℕ) (new : G) (qs : List Paste) → Pasting text shows old ps at b new qs → over shows (text new) qs ≡ slice_set (over shows (text old) ps) at (shows b)
-pasting-text text shows old ps at b new qs p = ⊎_elim
+pub pasting-text : {G : Type 0} (holding : galley.Ghosts G) (old : G) (ps : List Paste) (at b : ℕ) (new : G) (qs : List Paste) → Pasting holding old ps at b new qs
+    → over holding.shows (holding.text new) qs ≡ slice_set (over holding.shows (holding.text old) ps) at (holding.shows b)
+pasting-text holding old ps at b new qs p =
+    let text = holding.text in
+    let shows = holding.shows in
+    ⊎_elim
     (λ (full : is_full ps at ≡ true).
     ap (over shows (text new)) (p.held ∙ ap (λ f. paste_in (cond f [] ps) at b) full) ∙ ap (λ xs. set xs at (shows b)) (p.spilled full))
     (λ (room : is_full ps at ≡ false).

@@ -1,6 +1,7 @@
 -- Pasted bytes, each with its place. Assumes nothing.
 use Rattle.std.specs.Prelude.{◌≡◌, ℕ, ◌+◌, ◌≤◌, Bool, true, false, cond, List, [], ◌∷◌, length, take, drop, ◌==◌, slice_set}
 use Rattle.std.specs.List.{position_or_len}
+use Rattle.galleys.specs.declared.galley.Galley as galley
 use Rattle.layers.specs.declared.paste.Paste.{Paste}
 use Rattle.layers.specs.declared.paste_up.PasteUp.{PasteUp}
 use Rattle.layers.specs.declared.pastes.Pastes.{Pastes}
@@ -28,13 +29,13 @@ over shows text [] = text
 over shows text (p ∷ ps) = slice_set (over shows text ps) p.at (shows p.byte)
 
 -- the text of a paste-up: the one below with the pasted bytes put in, each as it is shown
-abbrev pub pasted_text : {G : Type 0} → (ℕ → ℕ) → (G → List ℕ) → PasteUp G → List ℕ
-pasted_text shows text s = over shows (text s.below) (paste_list s.pastes)
+abbrev pub pasted_text : {G : Type 0} → galley.Ghosts G → PasteUp G → List ℕ
+pasted_text holding s = over holding.shows (holding.text s.below) (paste_list s.pastes)
 
 -- a put over a galley that holds the pasted bytes ps: where they are full they are first written below and dropped
-pub record Pasting {G : Type 0} (text : G → List ℕ) (shows : ℕ → ℕ) (old : G) (ps : List Paste) (at b : ℕ) (new : G) (qs : List Paste) : Type 0 where
+pub record Pasting {G : Type 0} (holding : galley.Ghosts G) (old : G) (ps : List Paste) (at b : ℕ) (new : G) (qs : List Paste) : Type 0 where
   pub kept : is_full ps at ≡ false → new ≡ old
-  pub spilled : is_full ps at ≡ true → text new ≡ over shows (text old) ps
+  pub spilled : is_full ps at ≡ true → holding.text new ≡ over holding.shows (holding.text old) ps
   pub held : qs ≡ paste_in (cond (is_full ps at) [] ps) at b
 
 -- the part of any text from `at` on becomes that part of the text with the pasted bytes put in

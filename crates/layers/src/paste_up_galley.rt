@@ -11,23 +11,12 @@ use galleys::galley::Galley;
 use rules::refusal::Refusal;
 
 // Puts the pasted bytes into the galley, the last held first.
-// Here and below the two parts of a paste-up are lent apart, since the one is changed while the other is read.
+// The two parts of a paste-up are lent apart, since the one is changed while the other is read.
 fn put_all<G: Galley>(galley: &mut G, pastes: &Pastes)
     ensures after { G.Galley.text galley.new ≡ over G.Galley.shows (G.Galley.text galley.old) (paste_list pastes.now) }
 {
     for &Paste { at, byte } in pastes.list.iter().rev() {
         let _ = galley.put(at, byte);
-    }
-}
-
-// Lays the pasted bytes over a part of the text, which begins at `at`.
-fn lay<G: Galley>(galley: &G, pastes: &Pastes, at: usize, part: &mut [u8])
-    ensures laid { Laid G.Galley.shows (paste_list pastes.now) at part.old part.new }
-{
-    for &Paste { at: place, byte } in pastes.list.iter().rev() {
-        if at <= place && place - at < part.len() {
-            part[place - at] = galley.show(byte);
-        }
     }
 }
 
@@ -52,7 +41,7 @@ impl<G: Galley> PasteUp<G> {
 
     // Writes the pasted bytes below and drops them; the text does not change.
     pub fn spill(&mut self)
-        ensures below { G.Galley.text self.new.below ≡ pasted_text G.Galley.shows G.Galley.text self.old }
+        ensures below { G.Galley.text self.new.below ≡ pasted_text G.Galley self.old }
         ensures held { paste_list self.new.pastes ≡ [] }
     {
         put_all(&mut self.below, &self.pastes);
@@ -61,7 +50,7 @@ impl<G: Galley> PasteUp<G> {
 
     // Pastes a byte, after a spill where one more would be one too many.
     fn paste(&mut self, at: usize, b: u8)
-        ensures pasted { Pasting G.Galley.text G.Galley.shows self.old.below (paste_list self.old.pastes) at b self.new.below (paste_list self.new.pastes) }
+        ensures pasted { Pasting G.Galley self.old.below (paste_list self.old.pastes) at b self.new.below (paste_list self.new.pastes) }
     {
         if self.pastes.is_full(at) {
             self.spill();
@@ -69,9 +58,20 @@ impl<G: Galley> PasteUp<G> {
         self.pastes.paste(at, b);
     }
 
+    // Lays the pasted bytes over a part of the text, which begins at `at`.
+    fn lay(&self, at: usize, part: &mut [u8])
+        ensures laid { Laid G.Galley.shows (paste_list self.now.pastes) at part.old part.new }
+    {
+        for &Paste { at: place, byte } in self.pastes.list.iter().rev() {
+            if at <= place && place - at < part.len() {
+                part[place - at] = self.below.show(byte);
+            }
+        }
+    }
+
     // The galley below, after a spill, so that it has the paste-up's text.
     pub fn into_below(self) -> G
-        ensures text { G.Galley.text result ≡ pasted_text G.Galley.shows G.Galley.text self }
+        ensures text { G.Galley.text result ≡ pasted_text G.Galley self }
     {
         let PasteUp { mut below, pastes } = self;
         put_all(&mut below, &pastes);
@@ -80,7 +80,7 @@ impl<G: Galley> PasteUp<G> {
 }
 
 impl<G: Galley> Galley for PasteUp<G> {
-    ghost text = { pasted_text G.Galley.shows G.Galley.text };
+    ghost text = { pasted_text G.Galley };
 
     ghost shows = { G.Galley.shows };
 
@@ -98,14 +98,14 @@ impl<G: Galley> Galley for PasteUp<G> {
 
     fn fetch(&self, at: usize, buffer: &mut [u8]) -> Result<(), Refusal> {
         self.below.fetch(at, buffer)?;
-        lay(&self.below, &self.pastes, at, buffer);
+        self.lay(at, buffer);
         Ok(())
     }
 
     // What is held afterwards, and what stands below.
     fn put(&mut self, at: usize, b: u8) -> Result<(), Refusal>
-        ensures put { Put (pasted_text G.Galley.shows G.Galley.text) self.old at (G.Galley.shows b) result self.new }
-        ensures pasted { is_ok result ≡ true → Pasting G.Galley.text G.Galley.shows self.old.below (paste_list self.old.pastes) at b self.new.below (paste_list self.new.pastes) }
+        ensures put { Put (pasted_text G.Galley) self.old at (G.Galley.shows b) result self.new }
+        ensures pasted { is_ok result ≡ true → Pasting G.Galley self.old.below (paste_list self.old.pastes) at b self.new.below (paste_list self.new.pastes) }
     {
         if at >= self.below.length() {
             return Err(Refusal::PastText);

@@ -59,6 +59,7 @@ impl Matcher for Comparer {
 
     ghost fitting = { Prim.search rules };
 
+    // Every matcher has such a line, with a number or a limit of its own: a shared call would owe a contract and an edit for it.
     fn fits(&self, m: usize, k: usize) -> bool {
         (1..=64).contains(&m) && k < m
     }

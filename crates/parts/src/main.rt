@@ -19,7 +19,7 @@ use shifts::shift_or::ShiftOr;
 use telling::answers::told;
 use windows::two_way::TwoWayShiftOr;
 
-// Puts the heading into the galley, byte by byte, and prints what it then fetches.
+// Puts the heading into the galley, byte by byte, and prints what it then fetches. stacks puts a word so: a library would owe what the text then is, for a loop of one line.
 fn set_heading<G: Galley>(rt: &HostRuntime, name: &str, galley: &mut G) -> anyhow::Result<()> {
     let mut answer = Ok(());
     for (at, b) in b"REASON and rule.".iter().enumerate() {
@@ -129,7 +129,7 @@ fn write_rest(file: Headed, buffer: &mut [u8; 41]) -> usize
     }
 }
 
-// A small index file written record by record.
+// A small index file written record by record. files and stacks print bytes so too: a type that prints them, in a library, would owe the text that it prints, for one line of a loop.
 fn write_file(rt: &HostRuntime) -> anyhow::Result<()> {
     let mut buffer = [0u8; 41];
     let file = write_head(&mut buffer);

@@ -2,7 +2,7 @@
 ghost use Rattle.std.specs.Prelude.{◌≡◌, ◌<◌, ◌≤◌, length};
 
 // A term of 1 to 64 bytes whose limit is below its length: bytes[0..len] are its bytes.
-// They stay an array with its length: no call may allocate, and a held term may be copied, which no vector of fixed capacity may.
+// They stay an array with its length: a held term may be copied, which no vector may, so every reader of a row would have to clone it, and could fail.
 #[derive(Clone, Copy)]
 pub struct HeldTerm {
     pub(super) bytes: [u8; 64],

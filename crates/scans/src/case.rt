@@ -74,7 +74,7 @@ impl Case {
         std::array::from_fn(|i| self.kind.byte((i & 0xff) + self.kind.term_start(), self.m))
     }
 
-    // The stretch's bytes, as many as can be asked for. Both are cut where they are lent; a vector of fixed capacity would be filled by a loop.
+    // The stretch's bytes, as many as can be asked for.
     pub(super) fn stretch(self) -> [u8; 128] {
         std::array::from_fn(|i| self.kind.byte(i, self.m))
     }

@@ -40,6 +40,7 @@ fn line(rt: &HostRuntime, all: &mut All, case: Case) -> anyhow::Result<()> {
     let term = case.term();
     let stretch = case.stretch();
     let k = case.k;
+    // cut where they are lent; vectors of fixed capacity would be filled by loops
     let term = &term[..case.m.min(65)];
     let stretch = &stretch[..case.l.min(128)];
     let comparer = Printed::from(found(&mut all.comparer, term, k, stretch));

@@ -40,7 +40,7 @@ impl Forward for AndTable {
 
     ghost forward = { and-forward };
 
-    // It is the comparer's line with another number, which each matcher says for itself.
+    // It is the comparer's line with another number: a shared call would owe a contract and an edit for it.
     fn fits(m: usize, k: usize) -> bool {
         (1..=32).contains(&m) && k < m
     }

@@ -40,6 +40,7 @@ impl Forward for OrTable {
 
     ghost forward = { or-forward };
 
+    // It is the two-way matcher's line: a shared call would owe a contract and an edit for it.
     fn fits(m: usize, k: usize) -> bool {
         (1..=64).contains(&m) && k == 0
     }

@@ -13,7 +13,7 @@ use matchers::matcher::Matcher;
 use rules::held::HeldTerm;
 use rules::refusal::Refusal;
 
-// The term it was prepared for, if any, and the table of its words. The table stands beside the Option and not in it, since a new matcher is held to one too: that of a term with no place.
+// The term it was prepared for, if any, and the table of its words. The table stands beside the Option and not in it, since a new matcher is held to one too: that of a term with no place, which the edits of `new` are to break.
 #[derive(Drop)]
 pub struct Shifting<T: Forward> {
     table: T,

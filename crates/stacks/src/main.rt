@@ -11,7 +11,7 @@ use std::alloc::{AllocError, Global};
 use telling::answers::code;
 use telling::sums::{drawn, sum_of};
 
-// A buffer of n bytes of all values.
+// A buffer of n bytes of all values. edges draws a text so: the two differ in the seed and in the byte that is made of a draw, for a loop of two lines.
 fn make_buffer(heap: Global, n: usize) -> Result<Vec<u8>, AllocError> {
     let mut buffer = Vec::new(heap);
     let mut seed = 7u32;
@@ -22,7 +22,7 @@ fn make_buffer(heap: Global, n: usize) -> Result<Vec<u8>, AllocError> {
     Ok(buffer)
 }
 
-// What a fetch of `l` bytes answers, of at most 127.
+// What a fetch of `l` bytes answers, of at most 127. Here and below an array is cut to its length, since a fetch fills what it is lent.
 fn try_fetch<G: Galley>(galley: &G, at: usize, l: usize) -> Result<(), Refusal> {
     let mut buffer = [0u8; 127];
     galley.fetch(at, &mut buffer[..l.min(127)])
@@ -163,7 +163,7 @@ fn holding(rt: &HostRuntime) -> anyhow::Result<()> {
     back(rt, paste_up.into_below().into_buffer())
 }
 
-// Puts the word at the galley's start, up to the first refusal; the program parts goes on past one, and a loop of one line is no plainer in a library.
+// Puts the word at the galley's start, up to the first refusal; parts does so too, and a library would owe what the text then is, for a loop of one line.
 fn set_word<G: Galley>(galley: &mut G, word: &[u8]) -> Result<(), Refusal> {
     for (at, b) in word.iter().enumerate() {
         galley.put(at, *b)?;

@@ -10,13 +10,12 @@ returns-then-at-length-clause-put g c =
     let s = c.args.self.now in
     let shows = g.G.Galley.shows in
     let n = length_over shows (g.G.Galley.text s.below) (paste_list s.pastes) in
-    put-none (pasted_text shows g.G.Galley.text) s c.args.at (shows c.args.b) s (omega (arith, c.length.ensures.value)) refl
+    put-none (pasted_text g.G.Galley) s c.args.at (shows c.args.b) s (omega (arith, c.length.ensures.value)) refl
 
 pub returns-clause-put : goal.returns-clause-put
 returns-clause-put g c =
     let s = c.args.self.now in
     let shows = g.G.Galley.shows in
-    let below = g.G.Galley.text in
-    let n = length_over shows (below s.below) (paste_list s.pastes) in
-    put_one (pasted_text shows below) s c.args.at (shows c.args.b) _ (omega (arith, c.length.ensures.value))
-    (pasting-text below shows s.below (paste_list s.pastes) c.args.at c.args.b c.paste.new.self.below (paste_list c.paste.new.self.pastes) c.paste.ensures.pasted)
+    let n = length_over shows (g.G.Galley.text s.below) (paste_list s.pastes) in
+    put_one (pasted_text g.G.Galley) s c.args.at (shows c.args.b) _ (omega (arith, c.length.ensures.value))
+    (pasting-text g.G.Galley s.below (paste_list s.pastes) c.args.at c.args.b c.paste.new.self.below (paste_list c.paste.new.self.pastes) c.paste.ensures.pasted)
