@@ -5,12 +5,8 @@ use Rattle.rules.proofs.Counts.{count-below}
 use Rattle.ledger.specs.Debts.{owed}
 use Rattle.ledger.specs.Units.{unit_index}
 use Rattle.indexer.specs.Works.{Ran}
-use Rattle.indexer.proofs.Runs.{ran-none, ran-within, ran-more, none_before, ran-all, run-called}
+use Rattle.indexer.proofs.Runs.{ran-within, ran-more, none_before, ran-all, run-called}
 use Rattle.indexer.proofs.index.Indexer.run.Goals as goal
-
-pub loop-done-init : goal.loop-done-init
-loop-done-init g c =
-    (omega arith, omega arith, λ x below. absurd (omega arith), ran-none g.M.Matcher g.G.Galley c.args.self.now)
 
 pub loop-done-preserved : goal.loop-done-preserved
 loop-done-preserved g c =
