@@ -43,8 +43,10 @@ fn matches(term: &HeldTerm, window: &[u8]) -> bool
 fn word(term: &HeldTerm, stretch: &[u8]) -> u64
     ensures { result ≡ scanned (term_of term.now) stretch.now }
 {
+    let m = term.bytes().len();
+    let reach = stretch.len().min(63 + m);
     let mut word = 0;
-    for (s, window) in stretch.windows(term.bytes().len()).enumerate().take(64) {
+    for (s, window) in stretch[..reach].windows(m).enumerate() {
         if matches(term, window) {
             word |= 1u64 << s;
         }

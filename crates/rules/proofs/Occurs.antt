@@ -15,6 +15,19 @@ pub front-more : (t : Term) (text : List ℕ) (s r : ℕ) → front t text s (r 
 unfolding front
 front-more t text s r = all_more (λ i. byte_matches t i (get_or text (s + i) 0)) r
 
+-- a front that fails at some byte fails as a whole
+pub front-fails : (t : Term) (text : List ℕ) (s r m : ℕ) → r ≤ m → front t text s r ≡ false → front t text s m ≡ false
+front-fails t text s r m h e = ap (λ n. front t text s n) at ∙ more (m - r)
+  where
+    at : m ≡ r + (m - r)
+    at = omega arith
+
+    more : (d : ℕ) → front t text s (r + d) ≡ false
+    more zero = ap (λ n. front t text s n) (native.Mathlib.Nat.add-zero r) ∙ e
+    more (suc d) =
+        let step : r + suc d ≡ r + d + 1 = omega arith in
+        ap (λ n. front t text s n) step ∙ front-more t text s (r + d) ∙ and_left (front t text s (r + d)) _ (more d)
+
 pub front_same : (t : Term) (x y : List ℕ) (s u r : ℕ) → ((i : ℕ) → i < r → get_or x (s + i) 0 ≡ get_or y (u + i) 0) → front t x s r ≡ front t y u r
 unfolding front
 front_same t x y s u r h = all_same (λ i. byte_matches t i (get_or x (s + i) 0)) (λ i. byte_matches t i (get_or y (u + i) 0)) r (λ i l. ap (byte_matches t i) (h i l))

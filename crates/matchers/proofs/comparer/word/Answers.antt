@@ -1,4 +1,4 @@
-use Rattle.std.proofs.Common.{◌≡◌, ◌+◌, ◌*◌, ◌%◌, ◌^◌, ◌<◌, [], ◌∷◌, ◌++◌, length, sym, ap, ◌∙◌, arith, length-append}
+use Rattle.std.proofs.Common.{◌≡◌, ◌+◌, ◌*◌, ◌%◌, ◌^◌, ◌<◌, [], ◌∷◌, ◌++◌, length, take, sym, ap, ◌∙◌, arith, length-append}
 use lib.Bits.{bit_or}
 use Rattle.std.proofs.lemmas.Iterator.Consumers.{YieldsList-turn, YieldsList-end}
 use Rattle.rules.specs.Held.{term_of}
@@ -18,14 +18,15 @@ loop-s-preserved-then-matches c =
     let text = c.args.stretch.now in
     let long = held-length c.args.term.now in
     let some : 0 < length t.bytes = omega (arith, c.args.term.now.limited) in
-    let road = windows-road (length t.bytes) text c.windows.result c.enumerate.result c.take-s-items.result c.into_iter-s-iterator.result some c.windows.ensures.rest
-    (c.windows.ensures.size ∙ ap length c.bytes.ensures.value) c.enumerate.ensures.source c.enumerate.ensures.count c.take-s-items.ensures.source c.take-s-items.ensures.count c.into_iter-s-iterator.ensures.into_iter_gives in
+    let reach = c.min-reach.result in
+    let road = windows-road (length t.bytes) (take reach text) c.windows.result c.enumerate-s-items.result c.into_iter-s-iterator.result some c.windows.ensures.rest
+    (c.windows.ensures.size ∙ ap length c.bytes-m.ensures.value) c.enumerate-s-items.ensures.source c.enumerate-s-items.ensures.count c.into_iter-s-iterator.ensures.into_iter_gives in
     let n = length c.loop-s.yielded in
-    let here = placed-window t text n (c.in-Some.s, c.in-Some.window.now) c.matches.result some
+    let here = placed-window t text reach n (c.in-Some.s, c.in-Some.window.now) c.matches.result some (omega arith)
     (YieldsList-turn road c.loop-s.yielded c.loop-s.s-iterator c.loop-s.yielded_by c.next.result c.next.new.self (c.in-Some.s, c.in-Some.window) c.in-Some.is c.next.ensures.steps) c.matches.ensures in
     let next : n + 1 ≡ length (c.loop-s.yielded ++ ((c.in-Some.s, c.in-Some.window) ∷ [])) = sym (length-append c.loop-s.yielded _) in
     ap (λ k. bit_or c.loop-s.word (1 * 2 ^ k % 2 ^ 64)) here.1.0 ∙ ap (λ x. bit_or x (1 * 2 ^ n % 2 ^ 64)) c.loop-s.invariant
-    ∙ marked_more (occurs t text) n here.0 (here.1.1 ∙ c.if-matches.true) ∙ ap (marked_below (occurs t text)) next
+    ∙ marked_more (occurs t text) n (omega (arith, here.0, ap length c.bytes-m.ensures.value)) (here.1.1 ∙ c.if-matches.true) ∙ ap (marked_below (occurs t text)) next
 
 pub loop-s-preserved : goal.loop-s-preserved
 loop-s-preserved c =
@@ -33,10 +34,11 @@ loop-s-preserved c =
     let text = c.args.stretch.now in
     let long = held-length c.args.term.now in
     let some : 0 < length t.bytes = omega (arith, c.args.term.now.limited) in
-    let road = windows-road (length t.bytes) text c.windows.result c.enumerate.result c.take-s-items.result c.into_iter-s-iterator.result some c.windows.ensures.rest
-    (c.windows.ensures.size ∙ ap length c.bytes.ensures.value) c.enumerate.ensures.source c.enumerate.ensures.count c.take-s-items.ensures.source c.take-s-items.ensures.count c.into_iter-s-iterator.ensures.into_iter_gives in
+    let reach = c.min-reach.result in
+    let road = windows-road (length t.bytes) (take reach text) c.windows.result c.enumerate-s-items.result c.into_iter-s-iterator.result some c.windows.ensures.rest
+    (c.windows.ensures.size ∙ ap length c.bytes-m.ensures.value) c.enumerate-s-items.ensures.source c.enumerate-s-items.ensures.count c.into_iter-s-iterator.ensures.into_iter_gives in
     let n = length c.loop-s.yielded in
-    let here = placed-window t text n (c.in-Some.s, c.in-Some.window.now) c.matches.result some
+    let here = placed-window t text reach n (c.in-Some.s, c.in-Some.window.now) c.matches.result some (omega arith)
     (YieldsList-turn road c.loop-s.yielded c.loop-s.s-iterator c.loop-s.yielded_by c.next.result c.next.new.self (c.in-Some.s, c.in-Some.window) c.in-Some.is c.next.ensures.steps) c.matches.ensures in
     let next : n + 1 ≡ length (c.loop-s.yielded ++ ((c.in-Some.s, c.in-Some.window) ∷ [])) = sym (length-append c.loop-s.yielded _) in
     c.loop-s.invariant ∙ marked_other (occurs t text) n (here.1.1 ∙ c.if-matches.false) ∙ ap (marked_below (occurs t text)) next
@@ -47,8 +49,10 @@ returns c =
     let text = c.args.stretch.now in
     let long = held-length c.args.term.now in
     let some : 0 < length t.bytes = omega (arith, c.args.term.now.limited) in
-    let road = windows-road (length t.bytes) text c.windows.result c.enumerate.result c.take-s-items.result c.into_iter-s-iterator.result some c.windows.ensures.rest
-    (c.windows.ensures.size ∙ ap length c.bytes.ensures.value) c.enumerate.ensures.source c.enumerate.ensures.count c.take-s-items.ensures.source c.take-s-items.ensures.count c.into_iter-s-iterator.ensures.into_iter_gives in
+    let reach = c.min-reach.result in
+    let reach = c.min-reach.result in
+    let road = windows-road (length t.bytes) (take reach text) c.windows.result c.enumerate-s-items.result c.into_iter-s-iterator.result some c.windows.ensures.rest
+    (c.windows.ensures.size ∙ ap length c.bytes-m.ensures.value) c.enumerate-s-items.ensures.source c.enumerate-s-items.ensures.count c.into_iter-s-iterator.ensures.into_iter_gives in
     let all = (YieldsList-end road c.loop-s.yielded c.loop-s.s-iterator c.loop-s.yielded_by c.next.result c.next.new.self c.in-None.is c.next.ensures.steps).1 in
-    let many = placed-windows (length t.bytes) text some in
-    c.loop-s.invariant ∙ marked_all (occurs t text) (length c.loop-s.yielded) (λ s below past. occurs-past t text s (omega (arith, all, many)))
+    let many = placed-windows (length t.bytes) text reach some in
+    c.loop-s.invariant ∙ marked_all (occurs t text) (length c.loop-s.yielded) (λ s below past. occurs-past t text s (omega (arith, all, many, ap length c.bytes-m.ensures.value)))
