@@ -1,11 +1,20 @@
 // A term as a galley shows it.
-ghost use Rattle.std.specs.Prelude.{map};
+ghost use Rattle.std.specs.Prelude.{◌≡◌, map};
 ghost use Rattle.rules.specs.Held.{Held};
 
 use arrayvec::ArrayVec;
 use galleys::galley::Galley;
 use rules::held::HeldTerm;
 use rules::refusal::Refusal;
+
+// Makes each byte the one that the galley shows for it.
+fn show_all<G: Galley>(galley: &G, bytes: &mut [u8])
+    ensures after { bytes.new ≡ map G.Galley.shows bytes.old }
+{
+    for b in bytes.iter_mut() {
+        *b = galley.show(*b);
+    }
+}
 
 // The term, each byte as the galley shows it, where there can be such a term.
 pub(super) fn shown_term<G: Galley>(
@@ -15,12 +24,10 @@ pub(super) fn shown_term<G: Galley>(
 ) -> Result<HeldTerm, Refusal>
     ensures cases { Held (map G.Galley.shows term.now) limit result }
 {
-    if term.len() > 64 {
-        return Err(Refusal::TermLength);
-    }
     let mut shown: ArrayVec<u8, 64> = ArrayVec::new();
-    for b in term {
-        shown.push(galley.show(*b));
-    }
+    shown
+        .try_extend_from_slice(term)
+        .map_err(|_| Refusal::TermLength)?;
+    show_all(galley, shown.as_mut_slice());
     HeldTerm::new(shown.as_slice(), limit)
 }
