@@ -4,7 +4,7 @@ use mathlib.Core.Bool.{or-false}
 use lib.Bits.{bit_and, bit_or}
 use Rattle.std.proofs.lemmas.List.{get_or-replicate}
 use Rattle.std.proofs.lemmas.Bool.Decides.{nat_tests}
-use Rattle.std.proofs.lemmas.Bool.{cases_eq, cases_Bool, lt-ltb, le-ltb, eq-eqb, ne_eqb, cond_both, cond-true, cond-false}
+use Rattle.std.proofs.lemmas.Bool.{cases_eq, cases_Bool, lt-ltb, le-ltb, eq-eqb, ne_eqb, cond_both, cond-true, cond-false, le-leb}
 use Rattle.rules.specs.Words.{word_of}
 use Rattle.rules.specs.Terms.{Term, folded}
 use Rattle.rules.proofs.Words.{word_same, word_none, word_set, word-clear, word_ones, word-ones-up}
@@ -97,6 +97,12 @@ pub clear-all : (t : Term) (d i : ℕ) (table : List ℕ) → length t.bytes ≤
 unfolding clear_view
 clear-all t d i table l rows b h =
     rows b h ∙ clear_view-same d (λ j. ltb j i && hits t j b) (λ j. hits t j b) (λ j. places-all t i j b l)
+
+-- Shift-Or's row is the one from bit 0 up
+pub clear_or : (t : Term) (table : List ℕ) → Rows table (clear_row t 0) → Rows table (or_row t)
+clear_or t table rows b h =
+    rows b h ∙ word_same (λ j. leb 0 j && not (hits t (j - 0) b)) (λ j. not (hits t j b)) 64
+    (λ j _. let z : j - 0 ≡ j = omega arith in let e : leb 0 j ≡ true = le-leb 0 j (omega arith) in rw (z, e))
 
 -- with no term, every word of Shift-Or has all bits set
 pub or-none : Rows (replicate 256 (2 ^ 64 - 1)) (or_row (record { bytes = []; limit = 0 }))
