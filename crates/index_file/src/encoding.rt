@@ -1,11 +1,10 @@
 // The bytes of the records.
-ghost use Rattle.std.specs.Prelude.{◌≡◌, ◌≤◌, length};
+ghost use Rattle.std.specs.Prelude.{◌≡◌, ◌≤◌, ◌++◌, length};
 ghost use Rattle.index_file.specs.Records.Record.{head, term, locator, end};
 ghost use Rattle.index_file.specs.Records.{encoded};
 
 use super::kind::Kind;
 use super::record::{Head, Term};
-use arrayvec::ArrayVec;
 use rules::locator::Locator;
 
 // The head's record.
@@ -31,17 +30,13 @@ pub(super) fn head_bytes(given: Head) -> [u8; 12]
     ]
 }
 
-// A term's record. It has room for 6 bytes and a term's 64, so neither part is refused.
-pub(super) fn term_bytes(given: Term<'_>) -> ArrayVec<u8, 70>
+// A term's record up to its bytes, of which there are at most 64.
+pub(super) fn term_front(given: Term<'_>) -> [u8; 6]
     requires { length given.bytes.now ≤ 64 }
-    ensures value { result.items ≡ encoded (term given.entry.number given.entry.limit given.entry.bytes.now) }
+    ensures value { result ++ given.entry.bytes.now ≡ encoded (term given.entry.number given.entry.limit given.entry.bytes.now) }
 {
     let length = given.bytes.len() as u8 + 2;
-    let front = [length, 0, Kind::Term.into(), 0, given.number, given.limit];
-    let mut record = ArrayVec::new();
-    let _ = record.try_extend_from_slice(&front);
-    let _ = record.try_extend_from_slice(given.bytes);
-    record
+    [length, 0, Kind::Term.into(), 0, given.number, given.limit]
 }
 
 // A locator's record.

@@ -3,7 +3,7 @@ ghost use Rattle.std.specs.Prelude.{◌≡◌, ◌+◌, length};
 ghost use Rattle.index_file.specs.Files.{Reaches, Written};
 ghost use Rattle.index_file.specs.Records.Record.{head, term, locator, end};
 
-use super::encoding::{end_bytes, head_bytes, locator_bytes, term_bytes};
+use super::encoding::{end_bytes, head_bytes, locator_bytes, term_front};
 use super::placing::place;
 use super::record::{Head, Term};
 use super::state::{Headed, Unheaded};
@@ -24,7 +24,7 @@ impl Unheaded {
         ensures written { Written self 0 (head given.n given.owed given.terms) (Reaches 12 0) buffer.old result buffer.new }
     {
         let at = self.at;
-        let (Unheaded { at: _ }, at) = place(self, at, buffer, &head_bytes(given))?;
+        let (Unheaded { at: _ }, at) = place(self, at, buffer, &head_bytes(given), &[])?;
         Ok(Headed { at, locators: 0 })
     }
 }
@@ -42,8 +42,13 @@ impl Headed {
             });
         }
         let at = self.at;
-        let bytes = term_bytes(given);
-        let (Headed { at: _, locators }, at) = place(self, at, buffer, bytes.as_slice())?;
+        let (Headed { at: _, locators }, at) = place(
+            self,
+            at,
+            buffer,
+            &term_front(given),
+            given.bytes,
+        )?;
         Ok(Headed { at, locators })
     }
 
@@ -52,7 +57,7 @@ impl Headed {
         ensures written { Written self self.at (locator given.start given.page given.place given.variant) (Reaches (self.at + 11) (self.locators + 1)) buffer.old result buffer.new }
     {
         let at = self.at;
-        let (Headed { at: _, locators }, at) = place(self, at, buffer, &locator_bytes(given))?;
+        let (Headed { at: _, locators }, at) = place(self, at, buffer, &locator_bytes(given), &[])?;
         Ok(Headed {
             at,
             locators: locators + 1,
@@ -65,7 +70,7 @@ impl Headed {
     {
         let at = self.at;
         let bytes = end_bytes(self.locators);
-        let (Headed { at: _, locators: _ }, length) = place(self, at, buffer, &bytes)?;
+        let (Headed { at: _, locators: _ }, length) = place(self, at, buffer, &bytes, &[])?;
         Ok(length)
     }
 }
