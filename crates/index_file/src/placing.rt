@@ -9,6 +9,8 @@ use rules::refusal::Refusal;
 const MOST: usize = 4294967295;
 
 // Writes a record's two parts from `at` on where both fit; the state, and how far the file then reaches.
+// Inlined, since at each call the lengths of most parts are known, and their bytes then go straight to the buffer.
+#[inline(always)]
 pub(super) fn place<S>(
     state: S,
     at: usize,
