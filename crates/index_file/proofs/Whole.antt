@@ -1,11 +1,12 @@
 -- A file is its records. Assumes nothing.
-use Rattle.std.proofs.Common.{◌≡◌, ℕ, ◌+◌, ◌≤◌, min, Bool, true, false, cond, List, [], ◌∷◌, ◌++◌, length, Some, None, Ok, Option, sym, refl, ap, ◌∙◌, subst, arith}
+use Rattle.std.proofs.Common.{◌≡◌, ℕ, ◌+◌, ◌<◌, ◌≤◌, min, Bool, true, false, cond, List, [], ◌∷◌, ◌++◌, length, Some, None, Ok, Err, Option, sym, refl, ap, ◌∙◌, subst, arith}
 use lib.Seq.{paste}
 use Rattle.std.proofs.lemmas.List.Edits.{length-paste, paste-paste}
 use Rattle.std.proofs.lemmas.List.{append-nil, append_assoc, length-append}
-use Rattle.std.proofs.lemmas.Bool.{leb-true}
+use Rattle.std.proofs.lemmas.Bool.{leb-false, leb-true}
 use Rattle.rules.specs.declared.refusal.Refusal.{Refusal}
 use Rattle.rules.specs.declared.refusal.Refusal.TheVariants.{BufferTooSmall}
+use Rattle.rules.specs.declared.declined.Declined.{Declined}
 use Rattle.rules.specs.Refusals.{in_order}
 use Rattle.index_file.specs.declared.state.Headed.{Headed}
 use Rattle.index_file.specs.Records.{Record, encoded, encoded_all}
@@ -29,6 +30,25 @@ module _ {S T : Type 0} (state : S) (at : ℕ) (r : Record) (next : T → Type 0
       let a = taken (refusing r at (length old)) w.value w.after in
       let b = leb-true (at + length (encoded r)) (min (length old) 4294967295) (room (well_formed r) (fits at (length (encoded r)) (length old)) a.0) in
       (a.1.0, (a.1.1, omega arith))
+
+-- what a refused call tells
+module _ {S T : Type 0} (state : S) (at : ℕ) (r : Record) (next : T → Type 0) (old new : List ℕ) (d : Declined S) where
+  given : (o : Option Refusal) → Outcome {S = S} {T = T} o state next (Err d) → (o ≡ Some d.refusal) × (d.back ≡ state)
+  given None v = absurd v
+  given (Some e) v = (ap Some (sym v.0), v.1)
+
+  -- the state is handed back
+  pub handed-back : Written state at r next old (Err d) new → d.back ≡ state
+  handed-back w = (given (refusing r at (length old)) w.value).1
+
+  cramped : (w : Option Refusal) (b : Bool) → w ≡ None → in_order w (cond b None (Some BufferTooSmall)) ≡ Some d.refusal → b ≡ false
+  cramped None true n e = absurd (grind arith)
+  cramped None false n e = refl
+  cramped (Some x) b n e = absurd (grind arith)
+
+  -- a record that is well formed had no room
+  pub no_room : Written state at r next old (Err d) new → well_formed r ≡ None → min (length old) 4294967295 < at + length (encoded r)
+  no_room w well = leb-false (at + length (encoded r)) (min (length old) 4294967295) (cramped (well_formed r) (fits at (length (encoded r)) (length old)) well (given (refusing r at (length old)) w.value).0)
 
 -- one record more
 encoded-push : (rs : List Record) (r : Record) → encoded_all (rs ++ r ∷ []) ≡ encoded_all rs ++ encoded r
