@@ -27,7 +27,8 @@ impl Pastes {
     pub(super) fn is_full(&self, at: usize) -> bool
         ensures value { result ≡ is_full (paste_list self.now) at }
     {
-        self.list.is_full() && self.find(at).is_none()
+        let full = self.list.len() >= 32;
+        full && self.find(at).is_none()
     }
 
     // Replaces the byte at the place, or adds it.
