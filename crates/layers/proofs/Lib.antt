@@ -1,3 +1,4 @@
 pub mod Fetches
 pub mod Folds
 pub mod Overlays
+pub mod Lookups
