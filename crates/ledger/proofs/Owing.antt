@@ -1,5 +1,5 @@
 -- The units of a block. Assumes nothing.
-use Rattle.std.proofs.Common.{◌≡◌, ℕ, ◌+◌, ◌*◌, ◌/◌, ◌%◌, ◌<◌, ◌≤◌, false, get_or, Some, None, Ok, Err, Result, ap, ◌∙◌, ⊎_elim, arith}
+use Rattle.std.proofs.Common.{◌≡◌, ℕ, ◌+◌, ◌*◌, ◌/◌, ◌%◌, ◌<◌, ◌≤◌, true, false, get_or, Some, None, Ok, Err, Result, ap, ◌∙◌, ⊎_elim, arith}
 use lib.Count.{count_trailing_zeros}
 use Rattle.std.specs.Result.{result_ok}
 use Rattle.std.proofs.lemmas.Bool.{cases_lt}
@@ -12,7 +12,7 @@ use Rattle.rules.proofs.Counts.{count-row}
 use Rattle.ledger.specs.declared.debts.Debts.{Debts}
 use Rattle.ledger.specs.declared.unit.Unit.{Unit}
 use Rattle.ledger.specs.Units.{unit_index}
-use Rattle.ledger.specs.Debts.{owes, owed, Lowest, Foremost}
+use Rattle.ledger.specs.Debts.{owes, owed, Owed, Turned, Lowest, Foremost}
 use Rattle.ledger.proofs.Bits.{trailing_at, trailing_below}
 
 -- the units of one block more
@@ -32,3 +32,10 @@ pub lowest-is : (word : ℕ) (r : Result TermNumber Refusal) → Numbered (count
 lowest-is word (Ok number) e =
     (ap (bit word) e.0 ∙ trailing_at 16 word (omega (arith, number.below)), λ n l. trailing_below 16 word n (omega arith))
 lowest-is word (Err refusal) e = λ n l. let past : 15 < count_trailing_zeros 16 word = grind (arith, nat_tests) in trailing_below 16 word n (omega arith)
+
+-- turned on is owed
+pub owed_from_turned : (d : Debts) (number from to : ℕ) (e : Debts) → Turned d number from to true e → Owed d number from to e
+owed_from_turned d number from to e turned = turned
+
+pub turned_from_owed : (d : Debts) (number from to : ℕ) (e : Debts) → Owed d number from to e → Turned d number from to true e
+turned_from_owed d number from to e on = on

@@ -14,6 +14,10 @@ owes d n b = bit (slice_index d.words b) n
 abbrev pub owed : Debts → ℕ → Bool
 owed d x = owes d (x % 16) (x / 16)
 
+-- the number's units at the blocks from `from` to before `to` are owed, of the 256 blocks, and the others as before
+abbrev pub Owed : Debts → ℕ → ℕ → ℕ → Debts → Type 0
+Owed d number from to e = (n b : ℕ) → owes e n b ≡ cond (n == number && (nat_le from b && nat_lt b (min to 256))) true (owes d n b)
+
 -- the same, but that the units are owed or not, as `on` says
 abbrev pub Turned : Debts → ℕ → ℕ → ℕ → Bool → Debts → Type 0
 Turned d number from to on e = (n b : ℕ) → owes e n b ≡ cond (n == number && (nat_le from b && nat_lt b (min to 256))) on (owes d n b)
