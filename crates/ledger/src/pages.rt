@@ -1,11 +1,21 @@
 // Opening pages, and finding the page of a start.
-ghost use Rattle.std.specs.Prelude.{◌≡◌, ◌-◌, ◌≤◌, false, length, slice_index, [], ◌∷◌, ◌++◌, is_ok, if◌then◌else◌};
+ghost use Rattle.std.specs.Prelude.{◌≡◌, ◌-◌, ◌≤◌, true, false, length, nat_le, slice_index, [], ◌∷◌, ◌++◌, is_ok, if◌then◌else◌};
+ghost use Rattle.std.specs.List.Sorted.{IsNonDecreasing, IsPartitionPoint};
 ghost use Rattle.rules.specs.Refusals.{answer_of};
 ghost use Rattle.ledger.specs.Pages.{page_starts, last_start, opening, page_at, place_at};
 
 use super::page_table::{PagePlace, Pages};
 use arrayvec::ArrayVec;
 use rules::refusal::Refusal;
+
+// How many of the starts, in their order, are at or before the start. It is not copied into its callers, so that `find` stays short.
+#[inline(never)]
+fn begun(starts: &[u16], start: u16) -> usize
+    ensures most { result ≤ length starts.now }
+    ensures point { IsNonDecreasing starts.now → IsPartitionPoint (λ first. nat_le first start ≡ true) (λ first. nat_le first start ≡ false) starts.now result }
+{
+    starts.partition_point(|first| *first <= start)
+}
 
 impl Pages {
     // The first page is open.
@@ -47,9 +57,18 @@ impl Pages {
         ensures most { result ≤ length (page_starts self.now) }
         ensures before { slice_index (page_starts self.now) (result - 1) ≤ start }
     {
-        self.starts
-            .as_slice()
-            .partition_point(|first| *first <= start)
+        let starts = self.starts.as_slice();
+        let mut behind = starts.len();
+        let mut from = behind - 1;
+        // A start is mostly on a late page: the part behind `from` doubles until it holds the page.
+        while starts[from] > start {
+            behind = from;
+            from = (2 * from).saturating_sub(starts.len());
+        }
+        if from + 1 == behind {
+            return behind;
+        }
+        from + 1 + begun(&starts[from + 1..behind], start)
     }
 
     // The last page that begins at or before the start, and the start's place in it.

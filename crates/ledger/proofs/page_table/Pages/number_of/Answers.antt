@@ -1,24 +1,41 @@
-use Rattle.std.proofs.Common.{rules, of_calls, leb, ◌≡◌, ◌≤◌, length, true, false, sym, subst}
-use Rattle.std.proofs.lemmas.Fn.{always_returns_same}
-use Rattle.std.specs.List.Sorted.{IsNonDecreasing, IsPartitionPoint}
-use Rattle.ledger.proofs.Turns.{parted, point-some, point-before, point-page}
+use Rattle.std.proofs.Common.{rules, ◌≡◌, ◌≤◌, ◌-◌, ◌+◌, sym, subst, ap, ◌∙◌, get_or, arith}
+use Rattle.std.proofs.lemmas.List.Sorted.{IsNonDecreasingBy-take, IsNonDecreasingBy-drop}
+use Rattle.std.specs.List.Sorted.{IsNonDecreasing}
+use Rattle.ledger.specs.Pages.{page_starts, page_at}
+use Rattle.ledger.proofs.Turns.{page-found, between-page, between-before}
 use Rattle.ledger.proofs.page_table.Pages.number_of.Goals as goal
 
-pub returns : goal.returns
-returns c =
-    let p = c.args.self.now in
-    let s = c.args.start in
-    let same = c.as_slice.ensures.value in
-    let up : IsNonDecreasing c.as_slice.result.now = subst IsNonDecreasing (sym same) p.ascending in
-    let seen =
-    c.partition_point.ensures.partitioned (λ first. leb first s) (always_returns_same _ _ _ (λ a r f k. search (rules, of_calls)))
-    (parted c.as_slice.result.now s up) in
-    let point : IsPartitionPoint (λ start. leb start s ≡ true) (λ start. leb start s ≡ false) p.starts.items c.partition_point.result =
-    subst (λ xs. IsPartitionPoint (λ start. leb start s ≡ true) (λ start. leb start s ≡ false) xs c.partition_point.result) same seen in
-    let within : c.partition_point.result ≤ length p.starts.items = subst (λ xs. c.partition_point.result ≤ length xs) same c.partition_point.ensures.bound in
-    record {
-      value = point-page p.starts.items s c.partition_point.result p.some p.first within point;
-      some = point-some p.starts.items s c.partition_point.result p.some p.first within point;
-      most = within;
-      before = point-before p.starts.items s c.partition_point.result p.some p.first within point;
-    }
+pub returns-then-from-behind-clause-value : goal.returns-then-from-behind-clause-value
+returns-then-from-behind-clause-value c =
+    let xs = c.as_slice-starts.result.now in
+    let same : xs ≡ page_starts c.args.self.now = c.as_slice-starts.ensures.value in
+    let up : IsNonDecreasing xs = subst IsNonDecreasing (sym same) c.args.self.now.ascending in
+    let i = c.loop-from.invariant in
+    let on : get_or xs c.loop-from.from 0 ≤ c.args.start = omega (arith, c.loop-from-test.false) in
+    let found = page-found xs c.args.start c.loop-from.from (omega (arith, i.0, i.1)) on (λ k a b. omega (arith, i.2 (omega arith), up c.loop-from.behind k 0 (omega arith) b)) in
+    omega (arith, found, ap (λ ys. page_at ys c.args.start) same)
+
+module _ (c : goal.After-begun) where
+  same : c.as_slice-starts.result.now ≡ page_starts c.args.self.now
+  same = c.as_slice-starts.ensures.value
+
+  up : IsNonDecreasing c.as_slice-starts.result.now
+  up = subst IsNonDecreasing (sym same) c.args.self.now.ascending
+
+  on : get_or c.as_slice-starts.result.now c.loop-from.from 0 ≤ c.args.start
+  on = omega (arith, c.loop-from-test.false)
+
+  within : c.begun.result ≤ c.loop-from.behind - (c.loop-from.from + 1)
+  within = search rules
+
+pub returns-clause-value : goal.returns-clause-value
+returns-clause-value c =
+    let i = c.loop-from.invariant in
+    between-page c.as_slice-starts.result.now c.args.start c.loop-from.from c.loop-from.behind c.begun.result i.0 i.1 (up c) (on c) i.2 (within c) (c.begun.ensures.point (IsNonDecreasingBy-take (λ x. x) _ _ (IsNonDecreasingBy-drop (λ x. x) _ _ (up c))))
+    ∙ ap (λ ys. page_at ys c.args.start) (same c)
+
+pub returns-clause-before : goal.returns-clause-before
+returns-clause-before c =
+    let i = c.loop-from.invariant in
+    subst (λ ys. get_or ys (c.loop-from.from + 1 + c.begun.result - 1) 0 ≤ c.args.start) (same c)
+    (between-before c.as_slice-starts.result.now c.args.start c.loop-from.from c.loop-from.behind c.begun.result i.0 i.1 (up c) (on c) i.2 (within c) (c.begun.ensures.point (IsNonDecreasingBy-take (λ x. x) _ _ (IsNonDecreasingBy-drop (λ x. x) _ _ (up c)))))
