@@ -4,8 +4,9 @@ use Rattle.std.specs.declared.slice.Windows.{Windows}
 use Rattle.std.specs.Slice.Iter.{windows_rest, windows_size, windows_steps}
 use Rattle.std.proofs.lemmas.Bool.{le-leb, lt-leb, cases_lt}
 use Rattle.std.specs.declared.iter.Enumerate.{Enumerate}
-use Rattle.std.specs.Iterator.Adapters.{enumerate_source, enumerate_count, enumerate_steps}
-use Rattle.std.proofs.lemmas.Iterator.{YieldsList}
+use Rattle.std.specs.declared.iter.Take.{Take}
+use Rattle.std.specs.Iterator.Adapters.{enumerate_source, enumerate_count, enumerate_steps, take_source, take_count, take_steps}
+use Rattle.std.proofs.lemmas.Iterator.{YieldsList, YieldsList-from_take}
 use Rattle.std.proofs.lemmas.Iterator.Consumers.{YieldsList-at, YieldsList-from_enumerate}
 use Rattle.std.proofs.lemmas.Iterator.Splits.{YieldsList-from_shown_while}
 use Rattle.std.proofs.lemmas.List.FromFn.{length-enumerate_from, get_or-enumerate_from}
@@ -14,7 +15,7 @@ use Rattle.std.proofs.lemmas.List.{get_or-drop, get_or-take}
 use mathlib.Core.Bool.{and-true, and_assoc}
 use Rattle.rules.specs.Words.{all}
 use Rattle.rules.specs.Terms.{Term, front, occurs, same_byte, byte_matches}
-use Rattle.rules.proofs.Occurs.{front_same, occurs-within}
+use Rattle.rules.proofs.Occurs.{occurs-within}
 use Rattle.rules.proofs.Words.{all_same, all_none}
 
 -- the first test apart from the others
@@ -95,34 +96,33 @@ YieldsList-from_windows m xs s some rest size =
     ))
     s (subst (λ (k : ℕ). 0 < k) (sym size) some))
 
--- the windows of the text's first r bytes, each with its start: what the comparison of window i says, and how many there are
-pub placed-window : (t : Term) (text : List ℕ) (r i : ℕ) (p : ℕ × List ℕ) (b : Bool) → 0 < length t.bytes → r ≤ length text →
-    (i < length (enumerate_from 0 (window_list (length t.bytes) (take r text)))) × (p ≡ get_or (enumerate_from 0 (window_list (length t.bytes) (take r text))) i p) →
-    b ≡ front t p.1 0 (length t.bytes) → (i + length t.bytes ≤ r) × ((p.0 ≡ i) × (occurs t text i ≡ b))
-placed-window t text r i p b some reach h e =
+-- the first 64 windows, each with its start: what the comparison of window i says, and how many there are
+pub placed-window : (t : Term) (text : List ℕ) (i : ℕ) (p : ℕ × List ℕ) (b : Bool) → 0 < length t.bytes →
+    (i < length (take 64 (enumerate_from 0 (window_list (length t.bytes) text)))) × (p ≡ get_or (take 64 (enumerate_from 0 (window_list (length t.bytes) text))) i p) →
+    b ≡ front t p.1 0 (length t.bytes) → (i < 64) × ((p.0 ≡ i) × (occurs t text i ≡ b))
+placed-window t text i p b some h e =
     let m = length t.bytes in
-    let part = take r text in
-    let long = length-take r text in
-    let counted = length-enumerate_from 0 (window_list m part) in
-    let many = window_list-length m part some in
-    let within : i < length (window_list m part) = omega (arith, h.0) in
-    let fit : i + m ≤ length part = omega arith in
-    let is : p ≡ (0 + i, get_or (window_list m part) i p.1) = h.1 ∙ get_or-enumerate_from 0 (window_list m part) i p within in
+    let counted = length-enumerate_from 0 (window_list m text) in
+    let many = window_list-length m text some in
+    let short = length-take 64 (enumerate_from 0 (window_list m text)) in
+    let below : i < 64 = omega (arith, h.0) in
+    let within : i < length (window_list m text) = omega (arith, h.0) in
+    let fit : i + m ≤ length text = omega arith in
+    let is : p ≡ (0 + i, get_or (window_list m text) i p.1) = h.1 ∙ get_or-take 64 (enumerate_from 0 (window_list m text)) i p below ∙ get_or-enumerate_from 0 (window_list m text) i p within in
     let at : 0 + i ≡ i = omega arith in
-    let window : p.1 ≡ take m (drop i part) = ap (λ (x : ℕ × List ℕ). x.1) is ∙ window_list-at m part i p.1 some fit in
-    let here : front t text i m ≡ front t part i m = sym (front_same t part text i i m (λ j l. get_or-take r text (i + j) 0 (omega arith))) in (
-      omega arith,
-      (ap (λ (x : ℕ × List ℕ). x.0) is ∙ at, occurs-within t text i (omega arith) ∙ here ∙ sym (e ∙ ap (λ w. front t w 0 m) window ∙ front-window t part i)),
+    let window : p.1 ≡ take m (drop i text) = ap (λ (x : ℕ × List ℕ). x.1) is ∙ window_list-at m text i p.1 some fit in (
+      below,
+      (ap (λ (x : ℕ × List ℕ). x.0) is ∙ at, occurs-within t text i fit ∙ sym (e ∙ ap (λ w. front t w 0 m) window ∙ front-window t text i)),
     )
 
-pub placed-windows : (m : ℕ) (text : List ℕ) (r : ℕ) → 0 < m → length (enumerate_from 0 (window_list m (take r text))) ≡ min r (length text) + 1 - m
-placed-windows m text r some = length-enumerate_from 0 (window_list m (take r text)) ∙ window_list-length m (take r text) some ∙ ap (λ n. n + 1 - m) (length-take r text)
+pub placed-windows : (m : ℕ) (text : List ℕ) → 0 < m → length (take 64 (enumerate_from 0 (window_list m text))) ≡ min 64 (length text + 1 - m)
+placed-windows m text some = length-take 64 (enumerate_from 0 (window_list m text)) ∙ ap (min 64) (length-enumerate_from 0 (window_list m text) ∙ window_list-length m text some)
 
 -- the loop over them
 module _
-    (m : ℕ) (text : List ℕ) (w : Windows ℕ) (e s : Enumerate (Windows ℕ))
+    (m : ℕ) (text : List ℕ) (w : Windows ℕ) (e : Enumerate (Windows ℕ)) (k s : Take (Enumerate (Windows ℕ)))
     (some : 0 < m) (rest : windows_rest w ≡ text) (size : windows_size w ≡ m)
-    (source : enumerate_source e ≡ w) (count : enumerate_count e ≡ 0) (is : s ≡ e)
+    (source : enumerate_source e ≡ w) (count : enumerate_count e ≡ 0) (taken : take_source k ≡ e) (most : take_count k ≡ 64) (is : s ≡ k)
   where
-    pub windows-road : YieldsList {B = ℕ × List ℕ} (enumerate_steps windows_steps) (λ p. (p.0, p.1.now)) s (enumerate_from 0 (window_list m text))
-    windows-road = YieldsList-at is (YieldsList-from_enumerate (YieldsList-at source (YieldsList-from_windows m text w some rest size)) count)
+    pub windows-road : YieldsList {B = ℕ × List ℕ} (take_steps (enumerate_steps windows_steps)) (λ p. (p.0, p.1.now)) s (take 64 (enumerate_from 0 (window_list m text)))
+    windows-road = YieldsList-at is (YieldsList-from_take 64 (YieldsList-at taken (YieldsList-from_enumerate (YieldsList-at source (YieldsList-from_windows m text w some rest size)) count)) most)

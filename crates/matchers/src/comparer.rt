@@ -1,5 +1,5 @@
 // A matcher that compares plainly, byte by byte; every term fits it.
-ghost use Rattle.std.specs.Prelude.{◌≡◌, ◌≤◌, length, None};
+ghost use Rattle.std.specs.Prelude.{◌≡◌, ℕ, ◌+◌, ◌<◌, ◌≤◌, length, None, nat_le, nat_lt};
 ghost use Rattle.rules.specs.Held.{term_of};
 ghost use Rattle.rules.specs.Terms.{front, scanned};
 ghost use Rattle.matchers.specs.Compare.{comparer_term, comparer_fits};
@@ -26,28 +26,39 @@ impl Comparer {
     }
 }
 
-// Whether the term's bytes are matched by those of the window, which are as many.
-fn matches(term: &HeldTerm, window: &[u8]) -> bool
-    requires { length (term_of term.now).bytes ≤ length window.now }
-    ensures { result ≡ front (term_of term.now) window.now 0 (length (term_of term.now).bytes) }
+// Whether the term's bytes are matched by those of the stretch from `s` on.
+fn matches_at(term: &HeldTerm, stretch: &[u8], s: usize) -> bool
+    requires { s + length (term_of term.now).bytes ≤ length stretch.now }
+    ensures { result ≡ front (term_of term.now) stretch.now s (length (term_of term.now).bytes) }
 {
+    let bytes = term.bytes();
     let limit = term.limit();
-    term.bytes()
-        .iter()
-        .zip(window)
-        .enumerate()
-        .all(|(i, (p, b))| byte_matches(limit, i, *p, *b))
+    for i in 0..bytes.len() {
+        if !byte_matches(limit, i, bytes[i], stretch[s + i]) {
+            return false;
+        }
+    }
+    true
 }
 
-// The word of the term in the stretch.
+// How many of the first 64 starts have the term's end within the stretch.
+fn starts(m: usize, l: usize) -> usize
+    ensures within { (s : ℕ) → s < 64 → nat_lt s result ≡ nat_le (s + m) l }
+    ensures bound { result ≤ 64 }
+{
+    if m > l {
+        return 0;
+    }
+    (l - m).min(63) + 1
+}
+
+// The word of the term in the stretch. Its places are counted, here and in `matches_at`: going over the windows, and over the pairs of one, takes one and a half to two times as long.
 fn word(term: &HeldTerm, stretch: &[u8]) -> u64
     ensures { result ≡ scanned (term_of term.now) stretch.now }
 {
-    let m = term.bytes().len();
-    let reach = stretch.len().min(63 + m);
     let mut word = 0;
-    for (s, window) in stretch[..reach].windows(m).enumerate() {
-        if matches(term, window) {
+    for s in 0..starts(term.bytes().len(), stretch.len()) {
+        if matches_at(term, stretch, s) {
             word |= 1u64 << s;
         }
     }

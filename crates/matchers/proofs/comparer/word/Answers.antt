@@ -1,58 +1,44 @@
-use Rattle.std.proofs.Common.{◌≡◌, ◌+◌, ◌*◌, ◌%◌, ◌^◌, ◌<◌, [], ◌∷◌, ◌++◌, length, take, sym, ap, ◌∙◌, arith, length-append}
+use Rattle.std.proofs.Common.{◌≡◌, ◌+◌, ◌*◌, ◌%◌, ◌^◌, ◌≤◌, true, false, leb, length, sym, ap, ◌∙◌, arith}
 use lib.Bits.{bit_or}
-use Rattle.std.proofs.lemmas.Iterator.Consumers.{YieldsList-turn, YieldsList-end}
+use Rattle.std.proofs.lemmas.Bool.{lt-ltb, le-ltb, leb-true, leb-false}
 use Rattle.rules.specs.Held.{term_of}
 use Rattle.rules.specs.Terms.{occurs}
-use Rattle.rules.proofs.Helds.{held-length}
-use Rattle.rules.proofs.Occurs.{occurs-past}
-use Rattle.matchers.proofs.Comparing.{placed-window, placed-windows, windows-road}
-use Rattle.matchers.proofs.Marking.{marked_below, marked-none, marked_more, marked_other, marked_all}
+use Rattle.rules.proofs.Occurs.{occurs-within, occurs-past}
+use Rattle.matchers.proofs.Marking.{marked-none, marked_more, marked_other, marked_all}
 use Rattle.matchers.proofs.comparer.word.Goals as goal
+use Rattle.matchers.proofs.comparer.word.Goals.{then-matches_at, else-matches_at}
 
 pub loop-s-init : goal.loop-s-init
 loop-s-init c = marked-none (occurs (term_of c.args.term.now) c.args.stretch.now)
 
-pub loop-s-preserved-then-matches : goal.loop-s-preserved-then-matches
-loop-s-preserved-then-matches c =
+pub matches_at-requires : goal.matches_at-requires
+matches_at-requires c =
     let t = term_of c.args.term.now in
-    let text = c.args.stretch.now in
-    let long = held-length c.args.term.now in
-    let some : 0 < length t.bytes = omega (arith, c.args.term.now.limited) in
-    let reach = c.min-reach.result in
-    let road = windows-road (length t.bytes) (take reach text) c.windows.result c.enumerate-s-items.result c.into_iter-s-iterator.result some c.windows.ensures.rest
-    (c.windows.ensures.size ∙ ap length c.bytes-m.ensures.value) c.enumerate-s-items.ensures.source c.enumerate-s-items.ensures.count c.into_iter-s-iterator.ensures.into_iter_gives in
-    let n = length c.loop-s.yielded in
-    let here = placed-window t text reach n (c.in-Some.s, c.in-Some.window.now) c.matches.result some (omega arith)
-    (YieldsList-turn road c.loop-s.yielded c.loop-s.s-iterator c.loop-s.yielded_by c.next.result c.next.new.self (c.in-Some.s, c.in-Some.window) c.in-Some.is c.next.ensures.steps) c.matches.ensures in
-    let next : n + 1 ≡ length (c.loop-s.yielded ++ ((c.in-Some.s, c.in-Some.window) ∷ [])) = sym (length-append c.loop-s.yielded _) in
-    ap (λ k. bit_or c.loop-s.word (1 * 2 ^ k % 2 ^ 64)) here.1.0 ∙ ap (λ x. bit_or x (1 * 2 ^ n % 2 ^ 64)) c.loop-s.invariant
-    ∙ marked_more (occurs t text) n (omega (arith, here.0, ap length c.bytes-m.ensures.value)) (here.1.1 ∙ c.if-matches.true) ∙ ap (marked_below (occurs t text)) next
+    let m : length c.bytes.result.now ≡ length t.bytes = ap length c.bytes.ensures.value in
+    let s = c.loop-s.s in
+    let ends : leb (s + length c.bytes.result.now) (length c.args.stretch.now) ≡ true = sym (c.starts-s-end.ensures.within s (omega arith)) ∙ lt-ltb s c.starts-s-end.result c.loop-s-test.true in
+    omega (arith, leb-true _ _ ends)
 
 pub loop-s-preserved : goal.loop-s-preserved
 loop-s-preserved c =
     let t = term_of c.args.term.now in
     let text = c.args.stretch.now in
-    let long = held-length c.args.term.now in
-    let some : 0 < length t.bytes = omega (arith, c.args.term.now.limited) in
-    let reach = c.min-reach.result in
-    let road = windows-road (length t.bytes) (take reach text) c.windows.result c.enumerate-s-items.result c.into_iter-s-iterator.result some c.windows.ensures.rest
-    (c.windows.ensures.size ∙ ap length c.bytes-m.ensures.value) c.enumerate-s-items.ensures.source c.enumerate-s-items.ensures.count c.into_iter-s-iterator.ensures.into_iter_gives in
-    let n = length c.loop-s.yielded in
-    let here = placed-window t text reach n (c.in-Some.s, c.in-Some.window.now) c.matches.result some (omega arith)
-    (YieldsList-turn road c.loop-s.yielded c.loop-s.s-iterator c.loop-s.yielded_by c.next.result c.next.new.self (c.in-Some.s, c.in-Some.window) c.in-Some.is c.next.ensures.steps) c.matches.ensures in
-    let next : n + 1 ≡ length (c.loop-s.yielded ++ ((c.in-Some.s, c.in-Some.window) ∷ [])) = sym (length-append c.loop-s.yielded _) in
-    c.loop-s.invariant ∙ marked_other (occurs t text) n (here.1.1 ∙ c.if-matches.false) ∙ ap (marked_below (occurs t text)) next
+    let s = c.loop-s.s in
+    let m : length c.bytes.result.now ≡ length t.bytes = ap length c.bytes.ensures.value in
+    let ends : leb (s + length c.bytes.result.now) (length text) ≡ true = sym (c.starts-s-end.ensures.within s (omega arith)) ∙ lt-ltb s c.starts-s-end.result c.loop-s-test.true in
+    let fit : s + length t.bytes ≤ length text = omega (arith, leb-true _ _ ends) in
+    let here : c.matches_at.result ≡ occurs t text s = c.matches_at.ensures ∙ sym (occurs-within t text s fit) in
+    elim c.if-matches_at.branch [
+      | then-matches_at w ↦ w.word-is ∙ ap (λ x. bit_or x (1 * 2 ^ s % 2 ^ 64)) c.loop-s.invariant ∙ marked_more (occurs t text) s (omega arith) (sym here ∙ w.if-matches_at.true)
+      | else-matches_at w ↦ w.word-is ∙ c.loop-s.invariant ∙ marked_other (occurs t text) s (sym here ∙ w.if-matches_at.false)
+    ]
 
 pub returns : goal.returns
 returns c =
     let t = term_of c.args.term.now in
     let text = c.args.stretch.now in
-    let long = held-length c.args.term.now in
-    let some : 0 < length t.bytes = omega (arith, c.args.term.now.limited) in
-    let reach = c.min-reach.result in
-    let reach = c.min-reach.result in
-    let road = windows-road (length t.bytes) (take reach text) c.windows.result c.enumerate-s-items.result c.into_iter-s-iterator.result some c.windows.ensures.rest
-    (c.windows.ensures.size ∙ ap length c.bytes-m.ensures.value) c.enumerate-s-items.ensures.source c.enumerate-s-items.ensures.count c.into_iter-s-iterator.ensures.into_iter_gives in
-    let all = (YieldsList-end road c.loop-s.yielded c.loop-s.s-iterator c.loop-s.yielded_by c.next.result c.next.new.self c.in-None.is c.next.ensures.steps).1 in
-    let many = placed-windows (length t.bytes) text reach some in
-    c.loop-s.invariant ∙ marked_all (occurs t text) (length c.loop-s.yielded) (λ s below past. occurs-past t text s (omega (arith, all, many, ap length c.bytes-m.ensures.value)))
+    let n = c.loop-s.s in
+    let m : length c.bytes.result.now ≡ length t.bytes = ap length c.bytes.ensures.value in
+    c.loop-s.invariant ∙ marked_all (occurs t text) n (λ s below past.
+    let out : leb (s + length c.bytes.result.now) (length text) ≡ false = sym (c.starts-s-end.ensures.within s below) ∙ le-ltb s c.starts-s-end.result (omega arith) in
+    occurs-past t text s (omega (arith, leb-false _ _ out)))
